@@ -1,0 +1,12 @@
+-- The written meaning of document 01: definitions only. Laws about them stand in proofs/.
+pub mod Words
+pub mod Limits
+pub mod Night
+pub mod Codes
+pub mod Replay
+pub mod Derived
+pub mod Answers
+pub mod Calls
+pub mod Card
+
+-- pub mod Demands

@@ -1,0 +1,38 @@
+// What the yard is told: the answers of the calls, as document 01 has them. The meaning of each stands in specs/.
+
+// A number, 0 where all is done, and two details, 0 where unused.
+#[repr(C)]
+pub struct Answer {
+    pub number: usize,
+    pub a: usize,
+    pub b: usize,
+}
+
+// What the card reader tells besides: the card's steps, tracks, room, cars and trains, all 0 where it refuses.
+#[repr(C)]
+pub struct CardAnswer {
+    pub number: usize,
+    pub a: usize,
+    pub b: usize,
+    pub steps: usize,
+    pub tracks: usize,
+    pub room: usize,
+    pub cars: usize,
+    pub trains: usize,
+}
+
+// The two timings of a night, kept together: seconds for a pull-out, and seconds to push one car.
+#[repr(C)]
+pub struct Timings {
+    pub pull: f64,
+    pub push: f64,
+}
+
+// What the price of a night is, positive zero where it is refused.
+#[repr(C)]
+pub struct PriceAnswer {
+    pub number: usize,
+    pub a: usize,
+    pub b: usize,
+    pub price: f64,
+}
