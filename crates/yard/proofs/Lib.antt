@@ -1,0 +1,4 @@
+-- The laws of the written meaning, by topic.
+pub mod Bools
+pub mod Numbers
+pub mod First
