@@ -2,3 +2,11 @@
 pub mod Bools
 pub mod Numbers
 pub mod First
+pub mod Lists
+pub mod Order
+pub mod Replay
+pub mod Early
+pub mod Codes
+pub mod Passes
+pub mod Sorting
+pub mod Standing
