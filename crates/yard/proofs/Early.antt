@@ -71,6 +71,18 @@ pub record Gaps (W h x : ℕ) : Type 0 where
   pub lowest : (l : ℕ) → l < h → bit l x ≡ true → ((k : ℕ) → k < l → bit k x ≡ false) → l < W
   pub neighbours : (k l : ℕ) → k < l → l < h → bit k x ≡ true → bit l x ≡ true → ((j : ℕ) → k < j → j < l → bit j x ≡ false) → l ≤ k + W
 
+-- the highest set bit below s, or none
+pub highest : (x s : ℕ) → ((k : ℕ) → k < s → bit k x ≡ false) ⊎ ((k : ℕ) × (k < s) × (bit k x ≡ true) × ((j : ℕ) → k < j → j < s → bit j x ≡ false))
+highest x zero = inl (λ k m. absurd (omega arith))
+highest x (suc s) = ⊎-elim (λ e. inr (s, omega arith, e, λ j a b. absurd (omega arith))) (λ e. keeps e (highest x s)) (split (bit s x))
+  where
+    keeps :
+        bit s x ≡ false →
+        ((k : ℕ) → k < s → bit k x ≡ false) ⊎ ((k : ℕ) × (k < s) × (bit k x ≡ true) × ((j : ℕ) → k < j → j < s → bit j x ≡ false)) →
+        ((k : ℕ) → k < suc s → bit k x ≡ false) ⊎ ((k : ℕ) × (k < suc s) × (bit k x ≡ true) × ((j : ℕ) → k < j → j < suc s → bit j x ≡ false))
+    keeps e (inl none) = inl (below-more (λ (k : ℕ). bit k x ≡ false) s none e)
+    keeps e (inr r) = inr (r .0, le-step (r .1), r .2, λ j a b. ⊎-elim (λ q. ap (λ (i : ℕ). bit i x) q ∙ e) (λ m. r .3 j a m) (below-suc b))
+
 module _ (W h x : ℕ) (pos : 0 < W) where
   -- W steps before a set bit with none set in between, the car waits on that step's track
   waits : (l s : ℕ) → s + W ≡ l → l < h → bit l x ≡ true → ((j : ℕ) → s ≤ j → j < l → bit j x ≡ false) → Kept W h x → ⊥
@@ -94,21 +106,9 @@ module _ (W h x : ℕ) (pos : 0 < W) where
       let q : s / W < l / W = lt-of-mul-lt-mul-right W (omega (arith, div-add-mod' s W, div-add-mod' l W)) in
       omega (arith, div-add-mod' s W, div-add-mod' l W, mul-le-mul-right W q)
 
-  -- the highest set bit below s, or none
-  highest : (s : ℕ) → ((k : ℕ) → k < s → bit k x ≡ false) ⊎ ((k : ℕ) × (k < s) × (bit k x ≡ true) × ((j : ℕ) → k < j → j < s → bit j x ≡ false))
-  highest zero = inl (λ k m. absurd (omega arith))
-  highest (suc s) = ⊎-elim (λ e. inr (s, omega arith, e, λ j a b. absurd (omega arith))) (λ e. keeps e (highest s)) (split (bit s x))
-    where
-      keeps :
-          bit s x ≡ false →
-          ((k : ℕ) → k < s → bit k x ≡ false) ⊎ ((k : ℕ) × (k < s) × (bit k x ≡ true) × ((j : ℕ) → k < j → j < s → bit j x ≡ false)) →
-          ((k : ℕ) → k < suc s → bit k x ≡ false) ⊎ ((k : ℕ) × (k < suc s) × (bit k x ≡ true) × ((j : ℕ) → k < j → j < suc s → bit j x ≡ false))
-      keeps e (inl none) = inl (below-more (λ (k : ℕ). bit k x ≡ false) s none e)
-      keeps e (inr r) = inr (r .0, le-step (r .1), r .2, λ j a b. ⊎-elim (λ q. ap (λ (i : ℕ). bit i x) q ∙ e) (λ m. r .3 j a m) (below-suc b))
-
   pub kept-of-gaps : Gaps W h x → Kept W h x
   unfolding Kept
-  kept-of-gaps gaps s m unset n e = ⊎-elim (λ none. alone none) (λ r. after r) (highest s)
+  kept-of-gaps gaps s m unset n e = ⊎-elim (λ none. alone none) (λ r. after r) (highest x s)
     where
       l : ℕ
       l = nextStep h x s

@@ -10,3 +10,4 @@ pub mod Codes
 pub mod Passes
 pub mod Sorting
 pub mod Standing
+pub mod Counting
