@@ -4,7 +4,7 @@ use mathlib.Core.Logic.{_⊎_, inl, inr, ⊎-elim, _↔_}
 use mathlib.Core.Bool.{Bool, true, false, cond, not, _&&_, _||_}
 use mathlib.Core.List.{List, [], _∷_}
 use Prim.Native.Nat.{ℕ, zero, suc, _+_, _-_, _*_, _/_, _%_, _^_, _≤_, _<_}
-use native.Mathlib.Nat.{sub-le, lt-of-lt-of-le, le-add-right, mod-lt, le-refl, add-zero, zero-add, add-suc, suc-add, add-assoc, two-pow-succ, eq-or-lt-of-le, div-add-mod', sub-zero, suc-sub-suc, one-mul, add-comm, pow-succ', add-mul-div-right, add-mul-mod-self-left}
+use native.Mathlib.Nat.{le-of-suc-le-suc, sub-le, lt-of-lt-of-le, le-add-right, mod-lt, le-refl, add-zero, zero-add, add-suc, suc-add, add-assoc, two-pow-succ, eq-or-lt-of-le, div-add-mod', sub-zero, suc-sub-suc, one-mul, add-comm, pow-succ', add-mul-div-right, add-mul-mod-self-left}
 use native.Mathlib.Omega.{arith}
 use lib.Dec.{ltb, leb, eqb, lit<}
 use lib.ListN.{length, take, getD}
@@ -261,15 +261,26 @@ module _ (W : ℕ) (pos : 0 < W) (u : ℕ → ℕ → Bool) (tells : (h x : ℕ)
           let e : 2 ^ h ≡ g + (2 ^ h - g) = omega (arith, fits) in
           ap (λ (n : ℕ). total f (upFrom 0 n)) e ∙ total-split f 0 g (2 ^ h - g)
 
-  counts-to : (h j : ℕ) → j ≤ h → passing (u j) (2 ^ j) ≡ F W j
-  counts-to h zero l = omega (arith, ap tally (tells 0 0 .1 (record { lowest = λ l b. absurd (omega arith); neighbours = λ k l b d. absurd (omega arith) })))
-  counts-to zero (suc j) l = absurd (omega arith)
-  counts-to (suc h) (suc j) l =
+  counts-none : passing (u 0) (2 ^ 0) ≡ F W 0
+  counts-none = omega (arith, ap tally (tells 0 0 .1 (record { lowest = λ l b. absurd (omega arith); neighbours = λ k l b d. absurd (omega arith) })))
+
+  counts-next : (j : ℕ) → ((i : ℕ) → i ≤ j → passing (u i) (2 ^ i) ≡ F W i) → passing (u (suc j)) (2 ^ suc j) ≡ F W (suc j)
+  counts-next j lower =
       passing-suc j ∙
       ⊎-elim
-      (λ far. omega (arith, tops-high j far, take-F W W j far, counts-to h j (omega arith), counts-to h (j - W) (omega arith)))
-      (λ near. omega (arith, tops-low j near, take-F-all W W j near, counts-to h j (omega arith)))
+      (λ far. omega (arith, tops-high j far, take-F W W j far, lower j (le-refl j), lower (j - W) (sub-le j W)))
+      (λ near. omega (arith, tops-low j near, take-F-all W W j near, lower j (le-refl j)))
       (le-or-lt W j)
+
+  counts-to : (h j : ℕ) → j ≤ h → passing (u j) (2 ^ j) ≡ F W j
+  counts-to zero j l =
+      let e : 0 ≡ j = omega arith in
+      subst (λ (i : ℕ). passing (u i) (2 ^ i) ≡ F W i) e counts-none
+  counts-to (suc h) j l =
+      ⊎-elim
+      (λ e. subst (λ (i : ℕ). passing (u i) (2 ^ i) ≡ F W i) (sym e) (counts-next h (counts-to h)))
+      (λ m. counts-to h j (le-of-suc-le-suc m))
+      (eq-or-lt-of-le l)
 
   pub F-counts : (h : ℕ) → passing (u h) (2 ^ h) ≡ F W h
   F-counts h = counts-to h h (le-refl h)
