@@ -32,6 +32,7 @@ bit-under h x k m l = ap (λ (r : ℕ). eqb r 1) (ap (λ (q : ℕ). q % 2) shift
   where
     parted : h ≡ suc (h - suc k) + k
     parted = omega arith
+
     shifted : (2 ^ h + x) / 2 ^ k ≡ x / 2 ^ k + 2 ^ suc (h - suc k)
     shifted =
         ap (λ (z : ℕ). z / 2 ^ k) (add-comm (2 ^ h) x ∙ ap (λ (z : ℕ). x + z) (ap (λ (j : ℕ). 2 ^ j) parted ∙ pow-add 2 (suc (h - suc k)) k)) ∙
@@ -56,27 +57,31 @@ some-bit g h x l m n =
   where
     whole : g + (h - g) ≡ h
     whole = omega arith
+
     found-le : first (λ k. bit k x) (h - g) g ≤ g + (h - g) → first (λ k. bit k x) (h - g) g ≤ h
     found-le e = omega arith
+
     none : first (λ k. bit k x) (h - g) g ≡ h → ⊥
     none e =
-        omega
-        (arith,
-        low-same (h - g) g x (λ k u v. first-none (λ k. bit k x) (h - g) g k u (omega arith)),
-        ap (λ (j : ℕ). x % 2 ^ j) whole,
-        low-all h x m,
-        mod-lt x (pow-pos g))
+        omega (
+          arith,
+          low-same (h - g) g x (λ k u v. first-none (λ k. bit k x) (h - g) g k u (omega arith)),
+          ap (λ (j : ℕ). x % 2 ^ j) whole,
+          low-all h x m,
+          mod-lt x (pow-pos g),
+        )
 
 -- ---- sums over consecutive numbers
 
 pub total-split : (f : ℕ → ℕ) (c m n : ℕ) → total f (upFrom c (m + n)) ≡ total f (upFrom c m) + total f (upFrom (c + m) n)
 total-split f c zero n = omega (arith, ap (λ (k : ℕ). total f (upFrom c k)) (zero-add n), ap (λ (k : ℕ). total f (upFrom k n)) (add-zero c))
 total-split f c (suc m) n =
-    omega
-    (arith,
-    ap (λ (k : ℕ). total f (upFrom c k)) (suc-add m n),
-    total-split f (suc c) m n,
-    ap (λ (k : ℕ). total f (upFrom k n)) (add-suc c m ∙ sym (suc-add c m)))
+    omega (
+      arith,
+      ap (λ (k : ℕ). total f (upFrom c k)) (suc-add m n),
+      total-split f (suc c) m n,
+      ap (λ (k : ℕ). total f (upFrom k n)) (add-suc c m ∙ sym (suc-add c m)),
+    )
 
 pub total-shift : (f : ℕ → ℕ) (c d n : ℕ) → total f (upFrom (c + d) n) ≡ total (λ x. f (c + x)) (upFrom d n)
 total-shift f c d zero = refl
@@ -112,13 +117,15 @@ module _ (W : ℕ) (pos : 0 < W) where
     where
       less : Gaps W (suc h) x → Gaps W h x
       less g = record { lowest = λ l b. g .lowest l (omega arith); neighbours = λ k l b c. g .neighbours k l b (omega arith) }
+
       within : (l : ℕ) → l < suc h → bit l x ≡ true → l < h
       within l b set = ⊎-elim (λ e. clash set (ap (λ (k : ℕ). bit k x) e ∙ bit-above h x m)) (λ c. c) (below-suc b)
+
       more : Gaps W h x → Gaps W (suc h) x
       more g =
           record {
-              lowest = λ l b set. g .lowest l (within l b set) set;
-              neighbours = λ k l b c first set. g .neighbours k l b (within l c set) first set
+            lowest = λ l b set. g .lowest l (within l b set) set;
+            neighbours = λ k l b c first set. g .neighbours k l b (within l c set) first set;
           }
 
   -- a top bit is at most W above the next, or below W
@@ -127,17 +134,20 @@ module _ (W : ℕ) (pos : 0 < W) where
     where
       low : (k : ℕ) (b : Bool) → k < h → bit k x ≡ b → bit k (2 ^ h + x) ≡ b
       low k b l e = bit-under h x k m l ∙ e
+
       high : (k : ℕ) (b : Bool) → k < h → bit k (2 ^ h + x) ≡ b → bit k x ≡ b
       high k b l e = sym (bit-under h x k m l) ∙ e
+
       under : Gaps W (suc h) (2 ^ h + x) → Gaps W h x
       under g =
           record {
-              lowest = λ l b set none. g .lowest l (omega arith) (low l true b set) (λ k c. low k false (omega arith) (none k c));
-              neighbours =
-                  λ k l b c first set none.
-                      g .neighbours k l b (omega arith) (low k true (omega arith) first) (low l true c set)
-                      (λ j d e. low j false (omega arith) (none j d e))
+            lowest = λ l b set none. g .lowest l (omega arith) (low l true b set) (λ k c. low k false (omega arith) (none k c));
+            neighbours =
+                λ k l b c first set none.
+                g .neighbours k l b (omega arith) (low k true (omega arith) first) (low l true c set)
+                (λ j d e. low j false (omega arith) (none j d e));
           }
+
       near : Gaps W (suc h) (2 ^ h + x) → (h < W) ⊎ (2 ^ (h - W) ≤ x)
       near g = ⊎-elim (λ far. ⊎-elim (λ le. inr le) (λ lt. absurd (gap far lt (highest x h))) (le-or-lt (2 ^ (h - W)) x)) (λ b. inl b) (le-or-lt W h)
         where
@@ -150,6 +160,7 @@ module _ (W : ℕ) (pos : 0 < W) where
               (λ above. clash (r .2) (bit-above (r .0) x (lt-of-lt-of-le lt (pow-mono above))))
               (λ below. omega (arith, g .neighbours (r .0) h (r .1) (omega arith) (low (r .0) true (r .1) (r .2)) (bit-top h x m) (λ j d e. low j false e (r .3 j d e))))
               (le-or-lt (h - W) (r .0))
+
       above : Gaps W h x × ((h < W) ⊎ (2 ^ (h - W) ≤ x)) → Gaps W (suc h) (2 ^ h + x)
       above p = record { lowest = lowest; neighbours = neighbours }
         where
@@ -162,6 +173,7 @@ module _ (W : ℕ) (pos : 0 < W) where
             where
               some : l ≡ h → ((k : ℕ) × (h - W ≤ k) × (k < h) × (bit k x ≡ true)) → l < W
               some e r = clash (low (r .0) true (r .2) (r .3)) (none (r .0) (subst (λ (j : ℕ). r .0 < j) (sym e) (r .2)))
+
           neighbours :
               (k l : ℕ) → k < l → l < suc h → bit k (2 ^ h + x) ≡ true → bit l (2 ^ h + x) ≡ true →
               ((j : ℕ) → k < j → j < l → bit j (2 ^ h + x) ≡ false) → l ≤ k + W
@@ -240,22 +252,26 @@ module _ (W : ℕ) (pos : 0 < W) (u : ℕ → ℕ → Bool) (tells : (h x : ℕ)
   tops-high : (h : ℕ) → W ≤ h → tops h + passing (u (h - W)) (2 ^ (h - W)) ≡ passing (u h) (2 ^ h)
   unfolding tops
   tops-high h l =
-      omega
-      (arith,
-      at (λ x. tally (u (suc h) (2 ^ h + x))),
-      at (λ x. tally (u h x)),
-      total-same (λ x. tally (u (suc h) (2 ^ h + x))) (λ x. 0) (upFrom 0 g) (λ x m. ap tally (top-lost h x l (omega (arith, upFrom-bounds x 0 g m)))),
-      total-none (upFrom 0 g),
-      total-same (λ x. tally (u h x)) (λ x. tally (u (h - W) x)) (upFrom 0 g) (λ x m. ap tally (ap (λ (k : ℕ). u k x) whole ∙ grows-to W (h - W) x (omega (arith, upFrom-bounds x 0 g m)))),
-      total-same (λ x. tally (u (suc h) (2 ^ h + x))) (λ x. tally (u h x)) (upFrom (0 + g) (2 ^ h - g))
-      (λ x m. ap tally (top-kept h x (omega (arith, upFrom-bounds x (0 + g) (2 ^ h - g) m, fits)) (inr (omega (arith, upFrom-bounds x (0 + g) (2 ^ h - g) m))))))
+      omega (
+        arith,
+        at (λ x. tally (u (suc h) (2 ^ h + x))),
+        at (λ x. tally (u h x)),
+        total-same (λ x. tally (u (suc h) (2 ^ h + x))) (λ x. 0) (upFrom 0 g) (λ x m. ap tally (top-lost h x l (omega (arith, upFrom-bounds x 0 g m)))),
+        total-none (upFrom 0 g),
+        total-same (λ x. tally (u h x)) (λ x. tally (u (h - W) x)) (upFrom 0 g) (λ x m. ap tally (ap (λ (k : ℕ). u k x) whole ∙ grows-to W (h - W) x (omega (arith, upFrom-bounds x 0 g m)))),
+        total-same (λ x. tally (u (suc h) (2 ^ h + x))) (λ x. tally (u h x)) (upFrom (0 + g) (2 ^ h - g))
+            (λ x m. ap tally (top-kept h x (omega (arith, upFrom-bounds x (0 + g) (2 ^ h - g) m, fits)) (inr (omega (arith, upFrom-bounds x (0 + g) (2 ^ h - g) m))))),
+      )
     where
       g : ℕ
       g = 2 ^ (h - W)
+
       fits : g ≤ 2 ^ h
       fits = pow-mono (sub-le h W)
+
       whole : h ≡ h - W + W
       whole = omega arith
+
       at : (f : ℕ → ℕ) → total f (upFrom 0 (2 ^ h)) ≡ total f (upFrom 0 g) + total f (upFrom (0 + g) (2 ^ h - g))
       at f =
           let e : 2 ^ h ≡ g + (2 ^ h - g) = omega (arith, fits) in

@@ -11,3 +11,4 @@ pub mod Passes
 pub mod Sorting
 pub mod Standing
 pub mod Counting
+pub mod Trains

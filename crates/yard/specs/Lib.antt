@@ -8,5 +8,4 @@ pub mod Derived
 pub mod Answers
 pub mod Calls
 pub mod Card
-
--- pub mod Demands
+pub mod Demands
