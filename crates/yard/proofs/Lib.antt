@@ -1,0 +1,2 @@
+-- Laws of the written meaning, and the proofs of the functions.
+pub mod Verdict

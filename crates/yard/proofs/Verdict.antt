@@ -1,0 +1,75 @@
+-- Laws of a verdict: the first refusal of a call's tests is its answer, and where every test passes the answer is what the call says.
+use Prim.Native.Nat.{ℕ, _≤_}
+use mathlib.Core.Path.{_≡_, refl, ap, _∙_}
+use mathlib.Core.Logic.{_↔_}
+use mathlib.Core.Bool.{Bool, true, false, cond, _&&_, false≢true}
+use mathlib.Core.List.{List, [], _∷_, _++_}
+use native.Mathlib.Nat.{suc-ne-zero}
+use lib.Dec.{leb, eqb}
+use borrow.Author.Tests.{eqb-true, eqb-false, eq-eqb, ne-eqb, leb-true, le-leb}
+use Rattle.yard.specs.declared.Answer.{Answer}
+use Rattle.yard.specs.Answers.{says, test, verdict, countTest}
+
+-- every test of a list is passed
+abbrev pub Passed : List Answer → Type 0
+Passed [] = Unit {0}
+Passed (t ∷ ts) = (t .number ≡ 0) × Passed ts
+
+pub passed-append : (ts us : List Answer) → Passed (ts ++ us) ↔ (Passed ts × Passed us)
+passed-append [] us = (λ p. (tt, p), λ p. p .1)
+passed-append (t ∷ ts) us = (
+  λ p. ((p .0, passed-append ts us .0 (p .1) .0), passed-append ts us .0 (p .1) .1),
+  λ p. (p .0 .0, passed-append ts us .1 (p .0 .1, p .1)),
+)
+
+-- a test is passed exactly if what it asks for holds
+pub test-passed : (b : Bool) (refusal : Answer) → (refusal .number ≡ 0 → ⊥) → (test b refusal .number ≡ 0) ↔ (b ≡ true)
+test-passed true refusal h = (λ _. refl, λ _. refl)
+test-passed false refusal h = (λ e. absurd (h e), λ e. ap (λ b. test b refusal .number) e)
+
+pub both : (a b : Bool) → ((a && b) ≡ true) ↔ ((a ≡ true) × (b ≡ true))
+both true b = (λ e. (refl, e), λ e. e .1)
+both false b = (λ e. (e, absurd (false≢true e)), λ e. e .0)
+
+pub count-passed : (a low high x : ℕ) → (countTest a low high x .number ≡ 0) ↔ ((low ≤ x) × (x ≤ high))
+count-passed a low high x = (
+  λ e.
+      let within = both (leb low x) (leb x high) .0 (test-passed (leb low x && leb x high) (says 1 a 0) (suc-ne-zero 0) .0 e) in
+      (leb-true low x (within .0), leb-true x high (within .1)),
+  λ e. test-passed (leb low x && leb x high) (says 1 a 0) (suc-ne-zero 0) .1 (both (leb low x) (leb x high) .1 (le-leb low x (e .0), le-leb x high (e .1))),
+)
+
+-- one test more in front: passed, it leaves the verdict to the others; refused, it is the verdict
+pub verdict-after : (t : Answer) (ts : List Answer) (done : Answer) → t .number ≡ 0 → verdict (t ∷ ts) done ≡ verdict ts done
+verdict-after t ts done e = ap (λ b. cond b (verdict ts done) t) (eq-eqb (t .number) 0 e)
+
+pub verdict-refused : (t : Answer) (ts : List Answer) (done : Answer) → (t .number ≡ 0 → ⊥) → verdict (t ∷ ts) done ≡ t
+verdict-refused t ts done h = ap (λ b. cond b (verdict ts done) t) (ne-eqb (t .number) 0 h)
+
+pub verdict-append : (ts us : List Answer) (done : Answer) → verdict (ts ++ us) done ≡ verdict ts (verdict us done)
+verdict-append [] us done = refl
+verdict-append (t ∷ ts) us done = ap (λ v. cond (eqb (t .number) 0) v t) (verdict-append ts us done)
+
+pub verdict-passed : (ts : List Answer) (done : Answer) → Passed ts → verdict ts done ≡ done
+verdict-passed [] done p = refl
+verdict-passed (t ∷ ts) done p = verdict-after t ts done (p .0) ∙ verdict-passed ts done (p .1)
+
+-- the verdict is the first refusal
+pub verdict-first : (ts : List Answer) (t : Answer) (us : List Answer) (done : Answer) → Passed ts → (t .number ≡ 0 → ⊥) → verdict (ts ++ t ∷ us) done ≡ t
+verdict-first ts t us done p h =
+    verdict-append ts (t ∷ us) done ∙ verdict-passed ts (verdict (t ∷ us) done) p ∙ verdict-refused t us done h
+
+-- the verdict is 0 exactly if every test is passed and the call's own answer is 0
+cond-passes : (t later : Answer) (b : Bool) → eqb (t .number) 0 ≡ b → cond b later t .number ≡ 0 → (t .number ≡ 0) × (later .number ≡ 0)
+cond-passes t later true e h = (eqb-true (t .number) 0 e, h)
+cond-passes t later false e h = absurd (eqb-false (t .number) 0 e h)
+
+pub verdict-passes : (ts : List Answer) (done : Answer) → (verdict ts done .number ≡ 0) ↔ (Passed ts × (done .number ≡ 0))
+verdict-passes [] done = (λ e. (tt, e), λ p. p .1)
+verdict-passes (t ∷ ts) done = (
+  λ e.
+      let front = cond-passes t (verdict ts done) (eqb (t .number) 0) refl e in
+      let rest = verdict-passes ts done .0 (front .1) in
+      ((front .0, rest .0), rest .1),
+  λ p. ap (λ v. v .number) (verdict-passed (t ∷ ts) done (p .0)) ∙ p .1,
+)
