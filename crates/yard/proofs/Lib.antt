@@ -1,2 +1,3 @@
 -- Laws of the written meaning, and the proofs of the functions.
 pub mod Verdict
+pub mod Bits
