@@ -1,3 +1,6 @@
--- Laws of the written meaning, and the proofs of the functions.
+-- The laws of the written meaning, by topic.
+pub mod Bools
+pub mod Numbers
+pub mod First
 pub mod Verdict
 pub mod Bits
