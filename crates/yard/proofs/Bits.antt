@@ -254,3 +254,10 @@ toBytes-bitsOf bytes b =
     ap (λ k. unpacked (replicate k 8) (bitsOf bytes)) (ap wholeBytes (length-bitsOf bytes) ∙ wholeBytes-exact (length bytes))
     ∙ ap (unpacked (replicate (length bytes) 8)) (sym (append-nil (bitsOf bytes)))
     ∙ unpacked-packed (replicate (length bytes) 8) bytes [] (fits-run (length bytes) 8 bytes refl b)
+
+-- zero bits behind that fill no byte more change nothing
+pub toBytes-zeros : (bits : List ℕ) (k : ℕ) → wholeBytes (length bits + k) ≡ wholeBytes (length bits) → toBytes (bits ++ replicate k 0) ≡ toBytes bits
+toBytes-zeros bits k e =
+    ap (λ n. unpacked (replicate (wholeBytes n) 8) (bits ++ replicate k 0)) (length-append bits (replicate k 0) ∙ ap (λ n. length bits + n) (length-replicate k 0))
+    ∙ ap (λ n. unpacked (replicate n 8) (bits ++ replicate k 0)) e
+    ∙ unpacked-zeros (replicate (wholeBytes (length bits)) 8) bits k

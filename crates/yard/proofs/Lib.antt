@@ -4,3 +4,4 @@ pub mod Numbers
 pub mod First
 pub mod Verdict
 pub mod Bits
+pub mod Card

@@ -1,0 +1,139 @@
+-- Laws of the night card: its length, and that plan and card give back one another.
+use Prim.Native.Nat.{ℕ, zero, suc, _+_, _-_, _*_, _^_, _≤_, _<_}
+use mathlib.Core.Path.{_≡_, refl, sym, ap, _∙_}
+use mathlib.Core.Bool.{Bool, true, false, _&&_}
+use mathlib.Core.List.{List, [], _∷_, _++_}
+use native.Mathlib.Nat.{mul-le-mul, le-trans, le-of-eq}
+use native.Mathlib.Omega.{arith}
+use lib.Dec.{eqb}
+use lib.ListN.{length, getD, take, drop, replicate, length-append, length-drop, length-replicate, take-append-drop}
+use lib.Seq.{take-append-seam, drop-append-seam, drop-at, length-take-le}
+use borrow.Author.Tests.{eqb-true, eq-eqb}
+use Rattle.yard.specs.Words.{every}
+use Rattle.yard.specs.Night.{Night, Plan, sum}
+use Rattle.yard.specs.Card.{headWidths, widths, fields, packed, unpacked, wholeBytes, toBytes, bitsOf, cardLength, card, headField, cardPlan, rightLength, endsRight}
+use Rattle.yard.proofs.Bools.{and-left, and-right, and-both}
+use Rattle.yard.proofs.Bits.{Below, Fits, fits-append, fits-run, fits-below, fits-split, sum-append, sum-replicate, length-packed, length-unpacked, packed-below, unpacked-packed, packed-unpacked-enough, unpacked-fits, wholeBytes-exact, length-bitsOf, length-toBytes, bitsOf-below, bitsOf-toBytes, toBytes-bitsOf, toBytes-zeros}
+
+-- The format's widths, those of a plan's card, and those that a card's head gives.
+pub widths-sum : (h n m : ℕ) → sum (widths h n m) ≡ 39 + m * 10 + n * 10 + n * h
+widths-sum h n m = simp (sum-append, sum-replicate) (omega arith)
+
+pub widths-length : (h n m : ℕ) → length (widths h n m) ≡ 6 + m + n + n
+widths-length h n m = simp (length-append, length-replicate) (omega arith)
+
+abbrev pub planWidths : Plan → List ℕ
+planWidths p = widths (p .steps) (length (p .night .inbound)) (length (p .night .lengths))
+
+abbrev pub cardWidths : List ℕ → List ℕ
+cardWidths bytes = widths (headField bytes 1) (headField bytes 4) (headField bytes 5)
+
+-- Length.
+fields-length : (p : Plan) → length (p .codes) ≡ length (p .night .inbound) → length (fields p) ≡ length (planWidths p)
+unfolding fields
+fields-length p e = simp (length-append, length-replicate) (omega arith)
+
+pub card-length : (p : Plan) → length (p .codes) ≡ length (p .night .inbound) → length (card p) ≡ cardLength (p .steps) (length (p .night .inbound)) (length (p .night .lengths))
+unfolding card cardLength
+card-length p e = length-toBytes (packed (planWidths p) (fields p)) ∙ ap wholeBytes (length-packed (planWidths p) (fields p) (fields-length p e))
+
+pub cardLength-mono : {h n m h₁ n₁ m₁ : ℕ} → h ≤ h₁ → n ≤ n₁ → m ≤ m₁ → cardLength h n m ≤ cardLength h₁ n₁ m₁
+unfolding cardLength
+cardLength-mono {h} {n} {m} {h₁} {n₁} {m₁} a b c = omega (arith, widths-sum h n m, widths-sum h₁ n₁ m₁, mul-le-mul b a)
+
+cardLength-longest : cardLength 8 512 64 ≡ 1237
+unfolding cardLength
+cardLength-longest = refl
+
+-- no card within the limits is longer than 1,237 bytes, and one of 8 steps, 512 cars and 64 trains is as long
+pub card-longest : (p : Plan) → length (p .codes) ≡ length (p .night .inbound) → p .steps ≤ 8 → length (p .night .inbound) ≤ 512 → length (p .night .lengths) ≤ 64 → length (card p) ≤ 1237
+card-longest p e h n m = omega (arith, card-length p e, cardLength-mono h n m, cardLength-longest)
+
+-- What a card has room for.
+pub record Fitting (p : Plan) : Type 0 where
+  pub steps : p .steps < 16
+  pub tracks : p .night .tracks < 16
+  pub room : p .night .room < 1024
+  pub cars : length (p .night .inbound) < 1024
+  pub trains : length (p .night .lengths) < 128
+  pub lengths : Below 1024 (p .night .lengths)
+  pub inbound : Below 1024 (p .night .inbound)
+  pub codes : Below (2 ^ p .steps) (p .codes)
+  pub coded : length (p .codes) ≡ length (p .night .inbound)
+
+fields-fit : (p : Plan) → Fitting p → Fits (planWidths p) (fields p)
+unfolding fields
+fields-fit p f =
+    let n = length (p .night .inbound) in
+    let m = length (p .night .lengths) in
+    let codes = fits-run n (p .steps) (p .codes) (f .coded) (f .codes) in
+    let inbound = fits-append (replicate n 10) (p .night .inbound) (replicate n (p .steps)) (p .codes) (fits-run n 10 (p .night .inbound) refl (f .inbound)) codes in
+    let lengths = fits-append (replicate m 10) (p .night .lengths) (replicate n 10 ++ replicate n (p .steps)) (p .night .inbound ++ p .codes) (fits-run m 10 (p .night .lengths) refl (f .lengths)) inbound in
+    (omega arith, (f .steps, (f .tracks, (f .room, (f .cars, (f .trains, lengths))))))
+
+-- Plan, card, plan.
+spare : Plan → ℕ
+spare p = cardLength (p .steps) (length (p .night .inbound)) (length (p .night .lengths)) * 8 - sum (planWidths p)
+
+card-bits : (p : Plan) → length (p .codes) ≡ length (p .night .inbound) → bitsOf (card p) ≡ packed (planWidths p) (fields p) ++ replicate (spare p) 0
+unfolding card spare cardLength
+card-bits p e =
+    bitsOf-toBytes (packed (planWidths p) (fields p)) (packed-below (planWidths p) (fields p))
+    ∙ ap (λ k. packed (planWidths p) (fields p) ++ replicate (wholeBytes k * 8 - k) 0) (length-packed (planWidths p) (fields p) (fields-length p e))
+
+card-fields : (p : Plan) → Fitting p → unpacked (planWidths p) (bitsOf (card p)) ≡ fields p
+card-fields p f =
+    ap (unpacked (planWidths p)) (card-bits p (f .coded)) ∙ unpacked-packed (planWidths p) (fields p) (replicate (spare p) 0) (fields-fit p f)
+
+card-head : (p : Plan) → Fitting p → (k : ℕ) → headField (card p) k ≡ getD (take 6 (fields p)) k 0
+unfolding headField
+card-head p f k = ap (λ l. getD (take 6 l) k 0) (card-fields p f)
+
+pub record Head (p : Plan) (bytes : List ℕ) : Type 0 where
+  pub edition : headField bytes 0 ≡ 1
+  pub steps : headField bytes 1 ≡ p .steps
+  pub tracks : headField bytes 2 ≡ p .night .tracks
+  pub room : headField bytes 3 ≡ p .night .room
+  pub cars : headField bytes 4 ≡ length (p .night .inbound)
+  pub trains : headField bytes 5 ≡ length (p .night .lengths)
+
+pub card-heads : (p : Plan) → Fitting p → Head p (card p)
+unfolding fields
+card-heads p f =
+    record { edition = card-head p f 0; steps = card-head p f 1; tracks = card-head p f 2; room = card-head p f 3; cars = card-head p f 4; trains = card-head p f 5 }
+
+pub cardPlan-card : (p : Plan) → Fitting p → cardPlan (card p) ≡ p
+unfolding cardPlan fields
+cardPlan-card p f =
+    let head = card-heads p f in
+    let body : drop 6 (unpacked (planWidths p) (bitsOf (card p))) ≡ p .night .lengths ++ (p .night .inbound ++ p .codes) = ap (drop 6) (card-fields p f) in
+    rw (head .steps, head .tracks, head .room, head .cars, head .trains, body, take-append-seam, drop-append-seam, take-append-seam, drop-append-seam)
+
+pub card-right-length : (p : Plan) → Fitting p → rightLength (card p) ≡ length (card p)
+unfolding rightLength
+card-right-length p f =
+    let head = card-heads p f in
+    rw (head .steps, head .cars, head .trains) (sym (card-length p (f .coded)))
+
+every-zeros : (k : ℕ) → every (λ b. eqb b 0) (replicate k 0) ≡ true
+every-zeros zero = refl
+every-zeros (suc k) = every-zeros k
+
+zeros-every : (l : List ℕ) → every (λ b. eqb b 0) l ≡ true → l ≡ replicate (length l) 0
+zeros-every [] e = refl
+zeros-every (b ∷ l) e =
+    ap (λ x. x ∷ l) (eqb-true b 0 (and-left (eqb b 0) (every (λ b. eqb b 0) l) e))
+    ∙ ap (λ r. 0 ∷ r) (zeros-every l (and-right (eqb b 0) (every (λ b. eqb b 0) l) e))
+
+card-spare : (p : Plan) → Fitting p → drop (sum (cardWidths (card p))) (bitsOf (card p)) ≡ replicate (spare p) 0
+card-spare p f =
+    let head = card-heads p f in
+    rw (head .steps, head .cars, head .trains, card-bits p (f .coded))
+    (drop-at (packed (planWidths p) (fields p)) (replicate (spare p) 0) (sum (planWidths p)) (length-packed (planWidths p) (fields p) (fields-length p (f .coded))))
+
+pub card-ends-right : (p : Plan) → Fitting p → endsRight (card p) ≡ true
+unfolding endsRight
+card-ends-right p f =
+    and-both
+    (ap (every (λ b. eqb b 0)) (card-spare p f) ∙ every-zeros (spare p))
+    (eq-eqb (length (card p)) (rightLength (card p)) (sym (card-right-length p f)))
