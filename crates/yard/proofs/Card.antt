@@ -13,7 +13,7 @@ use Rattle.yard.specs.Words.{every}
 use Rattle.yard.specs.Night.{Night, Plan, sum}
 use Rattle.yard.specs.Card.{headWidths, widths, fields, packed, unpacked, wholeBytes, toBytes, bitsOf, cardLength, card, headField, cardPlan, rightLength, endsRight}
 use Rattle.yard.proofs.Bools.{and-left, and-right, and-both}
-use Rattle.yard.proofs.Bits.{Below, Fits, fits-append, fits-run, fits-below, fits-split, sum-append, sum-replicate, length-packed, length-unpacked, packed-below, unpacked-packed, packed-unpacked-enough, unpacked-fits, wholeBytes-exact, length-bitsOf, length-toBytes, bitsOf-below, bitsOf-toBytes, toBytes-bitsOf, toBytes-zeros}
+use Rattle.yard.proofs.Bits.{Below, Fits, fits-append, fits-run, fits-below, fits-split, sum-append, sum-replicate, length-packed, length-unpacked, packed-below, unpacked-packed, packed-unpacked-enough, unpacked-fits, wholeBytes-exact, length-bitsOf, length-toBytes, bitsOf-below, bitsOf-toBytes, toBytes-bitsOf, toBytes-below, toBytes-zeros}
 
 -- The format's widths, those of a plan's card, and those that a card's head gives.
 pub widths-sum : (h n m : ℕ) → sum (widths h n m) ≡ 39 + m * 10 + n * 10 + n * h
@@ -137,3 +137,115 @@ card-ends-right p f =
     and-both
     (ap (every (λ b. eqb b 0)) (card-spare p f) ∙ every-zeros (spare p))
     (eq-eqb (length (card p)) (rightLength (card p)) (sym (card-right-length p f)))
+
+-- Card, plan, card. What the head says of a card's plan holds for every list of bytes.
+abbrev cardFields : List ℕ → List ℕ
+cardFields bytes = unpacked (cardWidths bytes) (bitsOf bytes)
+
+body-length : (bytes : List ℕ) → length (drop 6 (cardFields bytes)) ≡ headField bytes 5 + headField bytes 4 + headField bytes 4
+body-length bytes =
+    omega (arith, length-drop 6 (cardFields bytes), length-unpacked (cardWidths bytes) (bitsOf bytes), widths-length (headField bytes 1) (headField bytes 4) (headField bytes 5))
+
+pub cardPlan-trains : (bytes : List ℕ) → length (cardPlan bytes .night .lengths) ≡ headField bytes 5
+unfolding cardPlan
+cardPlan-trains bytes = length-take-le (headField bytes 5) (drop 6 (cardFields bytes)) (omega (arith, body-length bytes))
+
+pub cardPlan-cars : (bytes : List ℕ) → length (cardPlan bytes .night .inbound) ≡ headField bytes 4
+unfolding cardPlan
+cardPlan-cars bytes =
+    length-take-le (headField bytes 4) (drop (headField bytes 5) (drop 6 (cardFields bytes)))
+    (omega (arith, body-length bytes, length-drop (headField bytes 5) (drop 6 (cardFields bytes))))
+
+pub cardPlan-codes : (bytes : List ℕ) → length (cardPlan bytes .codes) ≡ headField bytes 4
+unfolding cardPlan
+cardPlan-codes bytes =
+    omega (arith, body-length bytes, length-drop (headField bytes 5) (drop 6 (cardFields bytes)), length-drop (headField bytes 4) (drop (headField bytes 5) (drop 6 (cardFields bytes))))
+
+cardPlan-widths : (bytes : List ℕ) → planWidths (cardPlan bytes) ≡ cardWidths bytes
+unfolding cardPlan
+cardPlan-widths bytes =
+    ap (λ n. widths (headField bytes 1) n (length (cardPlan bytes .night .lengths))) (cardPlan-cars bytes)
+    ∙ ap (λ m. widths (headField bytes 1) (headField bytes 4) m) (cardPlan-trains bytes)
+
+cardFields-head : (bytes : List ℕ)
+    → headField bytes 0 ∷ headField bytes 1 ∷ headField bytes 2 ∷ headField bytes 3 ∷ headField bytes 4 ∷ headField bytes 5 ∷ drop 6 (cardFields bytes) ≡ cardFields bytes
+unfolding headField
+cardFields-head bytes = refl
+
+cardPlan-body : (bytes : List ℕ) → cardPlan bytes .night .lengths ++ (cardPlan bytes .night .inbound ++ cardPlan bytes .codes) ≡ drop 6 (cardFields bytes)
+unfolding cardPlan
+cardPlan-body bytes =
+    let body = drop 6 (cardFields bytes) in
+    let m = headField bytes 5 in
+    ap (λ l. take m body ++ l) (take-append-drop (headField bytes 4) (drop m body)) ∙ take-append-drop m body
+
+pub cardPlan-head : (bytes : List ℕ) → headField bytes 0 ≡ 1 → Head (cardPlan bytes) bytes
+unfolding cardPlan
+cardPlan-head bytes e =
+    record { edition = e; steps = refl; tracks = refl; room = refl; cars = sym (cardPlan-cars bytes); trains = sym (cardPlan-trains bytes) }
+
+cardPlan-fields : (bytes : List ℕ) → headField bytes 0 ≡ 1 → fields (cardPlan bytes) ≡ cardFields bytes
+unfolding fields
+cardPlan-fields bytes e =
+    let head = cardPlan-head bytes e in
+    rw (cardPlan-body bytes, ← (head .steps), ← (head .tracks), ← (head .room), ← (head .cars), ← (head .trains))
+    (ap (λ x. x ∷ headField bytes 1 ∷ headField bytes 2 ∷ headField bytes 3 ∷ headField bytes 4 ∷ headField bytes 5 ∷ drop 6 (cardFields bytes)) (sym e)
+    ∙ cardFields-head bytes)
+
+-- a list of bytes that is a card: its edition is 1, and it ends where it should
+pub record IsCard (bytes : List ℕ) : Type 0 where
+  pub small : Below 256 bytes
+  pub edition : headField bytes 0 ≡ 1
+  pub ends : endsRight bytes ≡ true
+
+pub card-isCard : (p : Plan) → Fitting p → IsCard (card p)
+unfolding card
+card-isCard p f =
+    record {
+      small = toBytes-below (packed (planWidths p) (fields p)) (packed-below (planWidths p) (fields p));
+      edition = card-heads p f .edition;
+      ends = card-ends-right p f;
+    }
+
+module _ (bytes : List ℕ) (is : IsCard bytes) where
+  right-length : length bytes ≡ rightLength bytes
+  unfolding endsRight
+  right-length =
+      eqb-true (length bytes) (rightLength bytes)
+      (and-right (every (λ b. eqb b 0) (drop (sum (cardWidths bytes)) (bitsOf bytes))) (eqb (length bytes) (rightLength bytes)) (is .ends))
+
+  spare-zeros : drop (sum (cardWidths bytes)) (bitsOf bytes) ≡ replicate (length (drop (sum (cardWidths bytes)) (bitsOf bytes))) 0
+  unfolding endsRight
+  spare-zeros =
+      zeros-every (drop (sum (cardWidths bytes)) (bitsOf bytes))
+      (and-left (every (λ b. eqb b 0) (drop (sum (cardWidths bytes)) (bitsOf bytes))) (eqb (length bytes) (rightLength bytes)) (is .ends))
+
+  right-bytes : length bytes ≡ wholeBytes (sum (cardWidths bytes))
+  unfolding rightLength cardLength
+  right-bytes = right-length
+
+  enough : sum (cardWidths bytes) ≤ length (bitsOf bytes)
+  enough = omega (arith, length-bitsOf bytes, right-bytes)
+
+  -- the fields of a card's plan are the card's bits up to the spare ones
+  cardPlan-bits : packed (planWidths (cardPlan bytes)) (fields (cardPlan bytes)) ≡ take (sum (cardWidths bytes)) (bitsOf bytes)
+  cardPlan-bits =
+      rw (cardPlan-widths bytes, cardPlan-fields bytes (is .edition)) (packed-unpacked-enough (cardWidths bytes) (bitsOf bytes) (bitsOf-below bytes) enough)
+
+  pub card-cardPlan : card (cardPlan bytes) ≡ bytes
+  unfolding card
+  card-cardPlan =
+      let front = take (sum (cardWidths bytes)) (bitsOf bytes) in
+      let behind = drop (sum (cardWidths bytes)) (bitsOf bytes) in
+      let cut : front ++ behind ≡ bitsOf bytes = take-append-drop (sum (cardWidths bytes)) (bitsOf bytes) in
+      let filled : wholeBytes (length front + length behind) ≡ wholeBytes (length front) =
+      omega (arith, length-append front behind, ap length cut, length-bitsOf bytes, right-bytes, length-take-le (sum (cardWidths bytes)) (bitsOf bytes) enough) in
+      ap toBytes cardPlan-bits
+      ∙ sym (toBytes-zeros front (length behind) filled)
+      ∙ ap (λ l. toBytes (front ++ l)) (sym spare-zeros)
+      ∙ ap toBytes cut
+      ∙ toBytes-bitsOf bytes (is .small)
+
+-- no two cards of one plan
+pub card-unique : (x y : List ℕ) → IsCard x → IsCard y → cardPlan x ≡ cardPlan y → x ≡ y
+card-unique x y isx isy e = sym (card-cardPlan x isx) ∙ ap card e ∙ card-cardPlan y isy
