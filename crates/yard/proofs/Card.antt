@@ -249,3 +249,30 @@ module _ (bytes : List ℕ) (is : IsCard bytes) where
 -- no two cards of one plan
 pub card-unique : (x y : List ℕ) → IsCard x → IsCard y → cardPlan x ≡ cardPlan y → x ≡ y
 card-unique x y isx isy e = sym (card-cardPlan x isx) ∙ ap card e ∙ card-cardPlan y isy
+
+-- Whatever the bytes, the plan that their fields give fits a card.
+cut-run : (m w : ℕ) (vs xs : List ℕ) → Fits (replicate m w ++ vs) xs → Below (2 ^ w) (take m xs) × Fits vs (drop m xs)
+cut-run m w vs xs f =
+    let cut : Fits (replicate m w) (take m xs) × Fits vs (drop m xs) = rw (length-replicate m w) at (fits-split (replicate m w) vs xs f) in
+    (fits-below m w (take m xs) (cut .0), cut .1)
+
+pub cardPlan-fitting : (bytes : List ℕ) → Fitting (cardPlan bytes)
+unfolding cardPlan headField
+cardPlan-fitting bytes =
+    let h = headField bytes 1 in
+    let n = headField bytes 4 in
+    let m = headField bytes 5 in
+    let head = unpacked-fits (cardWidths bytes) (bitsOf bytes) (bitsOf-below bytes) in
+    let lengths = cut-run m 10 (replicate n 10 ++ replicate n h) (drop 6 (cardFields bytes)) (head .1 .1 .1 .1 .1 .1) in
+    let inbound = cut-run n 10 (replicate n h) (drop m (drop 6 (cardFields bytes))) (lengths .1) in
+    record {
+      steps = head .1 .0;
+      tracks = head .1 .1 .0;
+      room = head .1 .1 .1 .0;
+      cars = rw (cardPlan-cars bytes) (head .1 .1 .1 .1 .0);
+      trains = rw (cardPlan-trains bytes) (head .1 .1 .1 .1 .1 .0);
+      lengths = lengths .0;
+      inbound = inbound .0;
+      codes = fits-below n h (drop n (drop m (drop 6 (cardFields bytes)))) (inbound .1);
+      coded = cardPlan-codes bytes ∙ sym (cardPlan-cars bytes);
+    }
