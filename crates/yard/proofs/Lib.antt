@@ -4,4 +4,5 @@ pub mod Numbers
 pub mod First
 pub mod Verdict
 pub mod Bits
+pub mod Tests
 pub mod Card

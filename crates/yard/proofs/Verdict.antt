@@ -1,15 +1,12 @@
 -- Laws of a verdict: the first refusal of a call's tests is its answer, and where every test passes the answer is what the call says.
-use Prim.Native.Nat.{ℕ, _≤_}
 use mathlib.Core.Path.{_≡_, refl, ap, _∙_}
 use mathlib.Core.Logic.{_↔_}
-use mathlib.Core.Bool.{Bool, true, false, cond, _&&_}
+use mathlib.Core.Bool.{Bool, true, false, cond}
 use mathlib.Core.List.{List, [], _∷_, _++_}
-use native.Mathlib.Nat.{suc-ne-zero}
-use lib.Dec.{leb, eqb}
-use borrow.Author.Tests.{eqb-true, eqb-false, eq-eqb, ne-eqb, leb-true, le-leb}
-use Rattle.yard.proofs.Bools.{and-left, and-right, and-both}
+use lib.Dec.{eqb}
+use borrow.Author.Tests.{eqb-true, eqb-false, eq-eqb, ne-eqb}
 use Rattle.yard.specs.declared.Answer.{Answer}
-use Rattle.yard.specs.Answers.{says, test, verdict, countTest}
+use Rattle.yard.specs.Answers.{test, verdict}
 
 -- every test of a list is passed
 abbrev pub Passed : List Answer → Type 0
@@ -27,13 +24,6 @@ passed-append (t ∷ ts) us = (
 pub test-passed : (b : Bool) (refusal : Answer) → (refusal .number ≡ 0 → ⊥) → (test b refusal .number ≡ 0) ↔ (b ≡ true)
 test-passed true refusal h = (λ _. refl, λ _. refl)
 test-passed false refusal h = (λ e. absurd (h e), λ e. ap (λ b. test b refusal .number) e)
-
-pub count-passed : (a low high x : ℕ) → (countTest a low high x .number ≡ 0) ↔ ((low ≤ x) × (x ≤ high))
-count-passed a low high x =
-    let asks = test-passed (leb low x && leb x high) (says 1 a 0) (suc-ne-zero 0) in (
-      λ e. (leb-true low x (and-left (leb low x) (leb x high) (asks .0 e)), leb-true x high (and-right (leb low x) (leb x high) (asks .0 e))),
-      λ e. asks .1 (and-both (le-leb low x (e .0)) (le-leb x high (e .1))),
-    )
 
 -- one test more in front: passed, it leaves the verdict to the others; refused, it is the verdict
 pub verdict-after : (t : Answer) (ts : List Answer) (done : Answer) → t .number ≡ 0 → verdict (t ∷ ts) done ≡ verdict ts done
