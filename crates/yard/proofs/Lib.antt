@@ -6,3 +6,4 @@ pub mod Verdict
 pub mod Bits
 pub mod Tests
 pub mod Card
+pub mod CardCalls

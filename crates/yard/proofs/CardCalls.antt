@@ -1,0 +1,125 @@
+-- The card's calls: what the writer writes the reader reads back, what the reader accepts is the card of its plan, and each call has one outcome.
+use Prim.Native.Nat.{ℕ, suc, _^_, _≤_, _<_}
+use mathlib.Core.Path.{_≡_, refl, sym, ap, _∙_}
+use mathlib.Core.Logic.{_↔_}
+use mathlib.Core.Bool.{Bool, true, false}
+use mathlib.Core.List.{List, [], _∷_, _++_}
+use native.Mathlib.Nat.{le-refl}
+use native.Mathlib.Omega.{arith}
+use lib.Dec.{leb, eqb}
+use lib.ListN.{length, getD, take, drop}
+use borrow.Author.Tests.{leb-true, le-leb, eqb-true, eq-eqb}
+use Rattle.yard.specs.declared.Answer.{Answer}
+use Rattle.yard.specs.declared.CardAnswer.{CardAnswer}
+use Rattle.yard.specs.Limits.{Limits, limits}
+use Rattle.yard.specs.Night.{Night, Plan, sum}
+use Rattle.yard.specs.Answers.{says, test, listTest, codeTest}
+use Rattle.yard.specs.Calls.{countTests, nightCounts, nightTests}
+use Rattle.yard.specs.Card.{cardLength, card, headField, cardPlan, rightLength, endsRight, writerTests, writerAnswer, Writes, readerTests, readerVerdict, readerAnswer, Reads}
+use Rattle.yard.proofs.Verdict.{Passed, passed-append, verdict-passes}
+use Rattle.yard.proofs.Tests.{asks, count-passed, list-passed, sum-passed, code-passed, inbound-within, item-le-sum}
+use Rattle.yard.proofs.Bits.{Below}
+use Rattle.yard.proofs.Card.{widths-sum, card-length, card-longest, Fitting, Head, card-heads, cardPlan-card, card-right-length, card-ends-right, cardPlan-head, IsCard, card-cardPlan, cardPlan-fitting}
+
+-- The writer accepts exactly if counts and lists pass, codes fit, and the buffer is long enough.
+pub record Writable (L : Limits) (p : Plan) (size : ℕ) : Type 0 where
+  pub counts : Passed (nightCounts L (p .night) (p .steps))
+  pub night : Passed (nightTests (p .night))
+  pub coded : length (p .codes) ≡ length (p .night .inbound)
+  pub codes : Below (2 ^ p .steps) (p .codes)
+  pub room : length (card p) ≤ size
+
+pub writer-accepts : (L : Limits) (p : Plan) (size : ℕ) → (writerAnswer L p size .number ≡ 0) ↔ Writable L p size
+unfolding writerAnswer
+writer-accepts L p size =
+    let n = length (p .night .inbound) in
+    let last = listTest 3 (eqb (length (p .codes)) n) ∷ codeTest (p .steps) (p .codes) ∷ listTest 6 (leb (length (card p)) size) ∷ [] in
+    let all = verdict-passes (writerTests L p size) (says 0 (length (card p)) 0) in
+    let counts = passed-append (nightCounts L (p .night) (p .steps)) (nightTests (p .night) ++ last) in
+    let night = passed-append (nightTests (p .night)) last in
+    let coded = list-passed 3 (eqb (length (p .codes)) n) in
+    let codes = code-passed (p .steps) (p .codes) in
+    let room = list-passed 6 (leb (length (card p)) size) in (
+      λ e.
+          let t = counts .0 (all .0 e .0) in
+          let u = night .0 (t .1) in
+          record {
+            counts = t .0;
+            night = u .0;
+            coded = eqb-true (length (p .codes)) n (coded .0 (u .1 .0));
+            codes = codes .0 (u .1 .1 .0);
+            room = leb-true (length (card p)) size (room .0 (u .1 .1 .1 .0));
+          },
+      λ w.
+          let l : Passed last = (coded .1 (eq-eqb (length (p .codes)) n (w .coded)), (codes .1 (w .codes), (room .1 (le-leb (length (card p)) size (w .room)), tt))) in
+          all .1 (counts .1 (w .counts, night .1 (w .night, l)), refl),
+    )
+
+-- The reader accepts exactly if the edition is 1, counts and lists pass, the buffers are long enough, and the card ends right.
+pub record Readable (L : Limits) (bytes : List ℕ) (a b c : ℕ) : Type 0 where
+  pub edition : headField bytes 0 ≡ 1
+  pub head : 5 ≤ length bytes
+  pub counts : Passed (countTests L (headField bytes 4) (headField bytes 5) (headField bytes 2) (headField bytes 3) (headField bytes 1))
+  pub whole : rightLength bytes ≤ length bytes
+  pub lengths : headField bytes 5 ≤ a
+  pub inbound : headField bytes 4 ≤ b
+  pub codes : headField bytes 4 ≤ c
+  pub night : Passed (nightTests (cardPlan bytes .night))
+  pub ends : endsRight bytes ≡ true
+
+pub reader-accepts : (L : Limits) (bytes : List ℕ) (a b c : ℕ) → (readerVerdict L bytes a b c .number ≡ 0) ↔ Readable L bytes a b c
+unfolding readerVerdict
+reader-accepts L bytes a b c =
+    let n = headField bytes 4 in
+    let m = headField bytes 5 in
+    let last = test (endsRight bytes) (says 12 (rightLength bytes) 0) ∷ [] in
+    let body =
+    test (leb (rightLength bytes) (length bytes)) (says 10 (rightLength bytes) 0)
+    ∷ listTest 1 (leb m a)
+    ∷ listTest 2 (leb n b)
+    ∷ listTest 3 (leb n c)
+    ∷ nightTests (cardPlan bytes .night) ++ last in
+    let all = verdict-passes (readerTests L bytes a b c) (says 0 0 0) in
+    let counts = passed-append (countTests L n m (headField bytes 2) (headField bytes 3) (headField bytes 1)) body in
+    let night = passed-append (nightTests (cardPlan bytes .night)) last in
+    let some = asks (leb 1 (length bytes)) 9 1 0 in
+    let edition = asks (eqb (headField bytes 0) 1) 10 (headField bytes 0) 0 in
+    let head = asks (leb 5 (length bytes)) 9 5 0 in
+    let whole = asks (leb (rightLength bytes) (length bytes)) 9 (rightLength bytes) 0 in
+    let ends = asks (endsRight bytes) 11 (rightLength bytes) 0 in (
+      λ e.
+          let t = all .0 e .0 in
+          let u = counts .0 (t .1 .1 .1) in
+          let v = u .1 in
+          let w = night .0 (v .1 .1 .1 .1) in
+          record {
+            edition = eqb-true (headField bytes 0) 1 (edition .0 (t .1 .0));
+            head = leb-true 5 (length bytes) (head .0 (t .1 .1 .0));
+            counts = u .0;
+            whole = leb-true (rightLength bytes) (length bytes) (whole .0 (v .0));
+            lengths = leb-true m a (list-passed 1 (leb m a) .0 (v .1 .0));
+            inbound = leb-true n b (list-passed 2 (leb n b) .0 (v .1 .1 .0));
+            codes = leb-true n c (list-passed 3 (leb n c) .0 (v .1 .1 .1 .0));
+            night = w .0;
+            ends = ends .0 (w .1 .0);
+          },
+      λ r.
+          let v : Passed body = (
+            whole .1 (le-leb (rightLength bytes) (length bytes) (r .whole)),
+            (
+              list-passed 1 (leb m a) .1 (le-leb m a (r .lengths)),
+              (
+                list-passed 2 (leb n b) .1 (le-leb n b (r .inbound)),
+                (list-passed 3 (leb n c) .1 (le-leb n c (r .codes)), night .1 (r .night, (ends .1 (r .ends), tt))),
+              ),
+            ),
+          ) in
+          let t : Passed (readerTests L bytes a b c) = (
+            some .1 (le-leb 1 (length bytes) (omega (arith, r .head))),
+            (
+              edition .1 (eq-eqb (headField bytes 0) 1 (r .edition)),
+              (head .1 (le-leb 5 (length bytes) (r .head)), counts .1 (r .counts, v)),
+            ),
+          ) in
+          all .1 (t, refl),
+    )
