@@ -41,6 +41,10 @@ pub cardLength-mono : {h n m h₁ n₁ m₁ : ℕ} → h ≤ h₁ → n ≤ n₁
 unfolding cardLength
 cardLength-mono {h} {n} {m} {h₁} {n₁} {m₁} a b c = omega (arith, widths-sum h n m, widths-sum h₁ n₁ m₁, mul-le-mul b a)
 
+pub cardLength-head : (h n m : ℕ) → 5 ≤ cardLength h n m
+unfolding cardLength
+cardLength-head h n m = omega (arith, widths-sum h n m)
+
 cardLength-longest : cardLength 8 512 64 ≡ 1237
 unfolding cardLength
 cardLength-longest = refl

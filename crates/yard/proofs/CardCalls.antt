@@ -4,7 +4,7 @@ use mathlib.Core.Path.{_≡_, refl, sym, ap, _∙_}
 use mathlib.Core.Logic.{_↔_}
 use mathlib.Core.Bool.{Bool, true, false}
 use mathlib.Core.List.{List, [], _∷_, _++_}
-use native.Mathlib.Nat.{le-refl}
+use native.Mathlib.Nat.{le-refl, le-of-eq}
 use native.Mathlib.Omega.{arith}
 use lib.Dec.{leb, eqb}
 use lib.ListN.{length, getD, take, drop}
@@ -17,13 +17,13 @@ use Rattle.yard.specs.Answers.{says, test, listTest, codeTest}
 use Rattle.yard.specs.Calls.{countTests, nightCounts, nightTests}
 use Rattle.yard.specs.Card.{cardLength, card, headField, cardPlan, rightLength, endsRight, writerTests, writerAnswer, Writes, readerTests, readerVerdict, readerAnswer, Reads}
 use Rattle.yard.proofs.Verdict.{Passed, passed-append, verdict-passes}
-use Rattle.yard.proofs.Tests.{asks, count-passed, list-passed, sum-passed, code-passed, inbound-within, item-le-sum}
+use Rattle.yard.proofs.Tests.{asks, Within, counts-passed, list-passed, sum-passed, code-passed, inbound-within, item-le-sum}
 use Rattle.yard.proofs.Bits.{Below}
-use Rattle.yard.proofs.Card.{widths-sum, card-length, card-longest, Fitting, Head, card-heads, cardPlan-card, card-right-length, card-ends-right, cardPlan-head, IsCard, card-cardPlan, cardPlan-fitting}
+use Rattle.yard.proofs.Card.{card-length, cardLength-head, card-longest, Fitting, Head, card-heads, cardPlan-card, card-right-length, card-ends-right, cardPlan-head, IsCard, card-cardPlan, cardPlan-fitting}
 
 -- The writer accepts exactly if counts and lists pass, codes fit, and the buffer is long enough.
 pub record Writable (L : Limits) (p : Plan) (size : ℕ) : Type 0 where
-  pub counts : Passed (nightCounts L (p .night) (p .steps))
+  pub counts : Within L (length (p .night .inbound)) (length (p .night .lengths)) (p .night .tracks) (p .night .room) (p .steps)
   pub night : Passed (nightTests (p .night))
   pub coded : length (p .codes) ≡ length (p .night .inbound)
   pub codes : Below (2 ^ p .steps) (p .codes)
@@ -36,6 +36,7 @@ writer-accepts L p size =
     let last = listTest 3 (eqb (length (p .codes)) n) ∷ codeTest (p .steps) (p .codes) ∷ listTest 6 (leb (length (card p)) size) ∷ [] in
     let all = verdict-passes (writerTests L p size) (says 0 (length (card p)) 0) in
     let counts = passed-append (nightCounts L (p .night) (p .steps)) (nightTests (p .night) ++ last) in
+    let within = counts-passed L n (length (p .night .lengths)) (p .night .tracks) (p .night .room) (p .steps) in
     let night = passed-append (nightTests (p .night)) last in
     let coded = list-passed 3 (eqb (length (p .codes)) n) in
     let codes = code-passed (p .steps) (p .codes) in
@@ -44,7 +45,7 @@ writer-accepts L p size =
           let t = counts .0 (all .0 e .0) in
           let u = night .0 (t .1) in
           record {
-            counts = t .0;
+            counts = within .0 (t .0);
             night = u .0;
             coded = eqb-true (length (p .codes)) n (coded .0 (u .1 .0));
             codes = codes .0 (u .1 .1 .0);
@@ -52,14 +53,14 @@ writer-accepts L p size =
           },
       λ w.
           let l : Passed last = (coded .1 (eq-eqb (length (p .codes)) n (w .coded)), (codes .1 (w .codes), (room .1 (le-leb (length (card p)) size (w .room)), tt))) in
-          all .1 (counts .1 (w .counts, night .1 (w .night, l)), refl),
+          all .1 (counts .1 (within .1 (w .counts), night .1 (w .night, l)), refl),
     )
 
 -- The reader accepts exactly if the edition is 1, counts and lists pass, the buffers are long enough, and the card ends right.
 pub record Readable (L : Limits) (bytes : List ℕ) (a b c : ℕ) : Type 0 where
   pub edition : headField bytes 0 ≡ 1
   pub head : 5 ≤ length bytes
-  pub counts : Passed (countTests L (headField bytes 4) (headField bytes 5) (headField bytes 2) (headField bytes 3) (headField bytes 1))
+  pub counts : Within L (headField bytes 4) (headField bytes 5) (headField bytes 2) (headField bytes 3) (headField bytes 1)
   pub whole : rightLength bytes ≤ length bytes
   pub lengths : headField bytes 5 ≤ a
   pub inbound : headField bytes 4 ≤ b
@@ -81,6 +82,7 @@ reader-accepts L bytes a b c =
     ∷ nightTests (cardPlan bytes .night) ++ last in
     let all = verdict-passes (readerTests L bytes a b c) (says 0 0 0) in
     let counts = passed-append (countTests L n m (headField bytes 2) (headField bytes 3) (headField bytes 1)) body in
+    let within = counts-passed L n m (headField bytes 2) (headField bytes 3) (headField bytes 1) in
     let night = passed-append (nightTests (cardPlan bytes .night)) last in
     let some = asks (leb 1 (length bytes)) 9 1 0 in
     let edition = asks (eqb (headField bytes 0) 1) 10 (headField bytes 0) 0 in
@@ -95,7 +97,7 @@ reader-accepts L bytes a b c =
           record {
             edition = eqb-true (headField bytes 0) 1 (edition .0 (t .1 .0));
             head = leb-true 5 (length bytes) (head .0 (t .1 .1 .0));
-            counts = u .0;
+            counts = within .0 (u .0);
             whole = leb-true (rightLength bytes) (length bytes) (whole .0 (v .0));
             lengths = leb-true m a (list-passed 1 (leb m a) .0 (v .1 .0));
             inbound = leb-true n b (list-passed 2 (leb n b) .0 (v .1 .1 .0));
@@ -118,8 +120,94 @@ reader-accepts L bytes a b c =
             some .1 (le-leb 1 (length bytes) (omega (arith, r .head))),
             (
               edition .1 (eq-eqb (headField bytes 0) 1 (r .edition)),
-              (head .1 (le-leb 5 (length bytes) (r .head)), counts .1 (r .counts, v)),
+              (head .1 (le-leb 5 (length bytes) (r .head)), counts .1 (within .1 (r .counts), v)),
             ),
           ) in
           all .1 (t, refl),
     )
+
+-- A plan that the writer accepts fits a card.
+writable-fitting : (p : Plan) (size : ℕ) → Writable limits p size → Fitting p
+writable-fitting p size w =
+    let n = length (p .night .inbound) in
+    let counts = w .counts in
+    let adds = sum-passed (p .night .lengths) n .0 (w .night .1 .0) in
+    let within = inbound-within (p .night .inbound) (w .night .1 .1 .0) in
+    record {
+      steps = omega arith;
+      tracks = omega arith;
+      room = omega arith;
+      cars = omega arith;
+      trains = omega arith;
+      lengths = λ i. omega (arith, item-le-sum (p .night .lengths) i);
+      inbound = λ i. omega (arith, within i);
+      codes = w .codes;
+      coded = w .coded;
+    }
+
+pub written-longest : (p : Plan) (size : ℕ) → writerAnswer limits p size .number ≡ 0 → length (card p) ≤ 1237
+written-longest p size e =
+    let w = writer-accepts limits p size .0 e in
+    card-longest p (w .coded) (w .counts .steps .1) (w .counts .cars .1) (w .counts .trains .1)
+
+-- What the writer writes the reader accepts, and reads back.
+pub written-read-back : (p : Plan) (size a b c : ℕ)
+    → writerAnswer limits p size .number ≡ 0
+    → length (p .night .lengths) ≤ a
+    → length (p .night .inbound) ≤ b
+    → length (p .codes) ≤ c
+    → (readerVerdict limits (card p) a b c .number ≡ 0) × (cardPlan (card p) ≡ p)
+written-read-back p size a b c e la lb lc =
+    let w = writer-accepts limits p size .0 e in
+    let f = writable-fitting p size w in
+    let head = card-heads p f in
+    let readable : Readable limits (card p) a b c =
+    record {
+      edition = head .edition;
+      head = rw (card-length p (w .coded)) (cardLength-head (p .steps) (length (p .night .inbound)) (length (p .night .lengths)));
+      counts = rw (head .steps, head .tracks, head .room, head .cars, head .trains) (w .counts);
+      whole = le-of-eq (card-right-length p f);
+      lengths = rw (head .trains) la;
+      inbound = rw (head .cars) lb;
+      codes = rw (head .cars) (rw (w .coded) at lc);
+      night = rw (cardPlan-card p f) (w .night);
+      ends = card-ends-right p f;
+    } in
+    (reader-accepts limits (card p) a b c .1 readable, cardPlan-card p f)
+
+-- What the reader accepts is the card of its plan: the writer accepts that plan, and writes those bytes.
+readable-card : (L : Limits) (bytes : List ℕ) (a b c : ℕ) → Below 256 bytes → Readable L bytes a b c → card (cardPlan bytes) ≡ bytes
+readable-card L bytes a b c small r = card-cardPlan bytes (record { small = small; edition = r .edition; ends = r .ends })
+
+pub accepted-is-the-card : (L : Limits) (bytes : List ℕ) (a b c : ℕ)
+    → Below 256 bytes
+    → readerVerdict L bytes a b c .number ≡ 0
+    → (card (cardPlan bytes) ≡ bytes) × (writerAnswer L (cardPlan bytes) (length bytes) .number ≡ 0)
+accepted-is-the-card L bytes a b c small e =
+    let r = reader-accepts L bytes a b c .0 e in
+    let same = readable-card L bytes a b c small r in
+    let head = cardPlan-head bytes (r .edition) in
+    let f = cardPlan-fitting bytes in
+    let writable : Writable L (cardPlan bytes) (length bytes) =
+    record {
+      counts = rw (head .steps, head .tracks, head .room, head .cars, head .trains) at (r .counts);
+      night = r .night;
+      coded = f .coded;
+      codes = f .codes;
+      room = rw same (le-refl (length bytes));
+    } in
+    (same, writer-accepts L (cardPlan bytes) (length bytes) .1 writable)
+
+pub accepted-longest : (bytes : List ℕ) (a b c : ℕ) → Below 256 bytes → readerVerdict limits bytes a b c .number ≡ 0 → length bytes ≤ 1237
+accepted-longest bytes a b c small e =
+    let back = accepted-is-the-card limits bytes a b c small e in
+    rw (back .0) at (written-longest (cardPlan bytes) (length bytes) (back .1))
+
+pub accepted-unique : (x y : List ℕ) (a b c : ℕ)
+    → Below 256 x
+    → Below 256 y
+    → readerVerdict limits x a b c .number ≡ 0
+    → readerVerdict limits y a b c .number ≡ 0
+    → cardPlan x ≡ cardPlan y
+    → x ≡ y
+accepted-unique x y a b c sx sy ex ey e = sym (accepted-is-the-card limits x a b c sx ex .0) ∙ ap card e ∙ accepted-is-the-card limits y a b c sy ey .0

@@ -11,13 +11,15 @@ use lib.ListN.{length, getD, take, List·getD-eq-default}
 use lib.Pow.{pow-pos}
 use borrow.Author.Tests.{leb-true, leb-false, le-leb, lt-leb, ltb-true, lt-ltb, eqb-true, eq-eqb}
 use Rattle.yard.specs.declared.Answer.{Answer}
+use Rattle.yard.specs.Limits.{Limits}
 use Rattle.yard.specs.Words.{first, listed}
 use Rattle.yard.specs.Night.{sum, itemOf}
 use Rattle.yard.specs.Answers.{says, test, countTest, listTest, sumTest, badPlace, firstBad, inboundTest, wideCode, codeTest}
+use Rattle.yard.specs.Calls.{countTests}
 use Rattle.yard.proofs.Bools.{and-left, and-right, and-both, not-false}
 use Rattle.yard.proofs.Numbers.{le-or-lt}
 use Rattle.yard.proofs.First.{first-none, first-fails}
-use Rattle.yard.proofs.Verdict.{test-passed}
+use Rattle.yard.proofs.Verdict.{Passed, test-passed}
 use Rattle.yard.proofs.Bits.{Below}
 
 -- a refusal has a number of its own
@@ -29,6 +31,25 @@ count-passed a low high x =
     let within = asks (leb low x && leb x high) 0 a 0 in (
       λ e. (leb-true low x (and-left (leb low x) (leb x high) (within .0 e)), leb-true x high (and-right (leb low x) (leb x high) (within .0 e))),
       λ e. within .1 (and-both (le-leb low x (e .0)) (le-leb x high (e .1))),
+    )
+
+-- the five counts of a call are within the limits
+pub record Within (L : Limits) (n m W C h : ℕ) : Type 0 where
+  pub cars : (1 ≤ n) × (n ≤ L .cars)
+  pub trains : (1 ≤ m) × (m ≤ L .trains)
+  pub tracks : (1 ≤ W) × (W ≤ L .tracks)
+  pub room : (1 ≤ C) × (C ≤ L .room)
+  pub steps : (0 ≤ h) × (h ≤ L .steps)
+
+pub counts-passed : (L : Limits) (n m W C h : ℕ) → Passed (countTests L n m W C h) ↔ Within L n m W C h
+counts-passed L n m W C h =
+    let cars = count-passed 1 1 (L .cars) n in
+    let trains = count-passed 2 1 (L .trains) m in
+    let tracks = count-passed 3 1 (L .tracks) W in
+    let room = count-passed 4 1 (L .room) C in
+    let steps = count-passed 5 0 (L .steps) h in (
+      λ t. record { cars = cars .0 (t .0); trains = trains .0 (t .1 .0); tracks = tracks .0 (t .1 .1 .0); room = room .0 (t .1 .1 .1 .0); steps = steps .0 (t .1 .1 .1 .1 .0) },
+      λ r. (cars .1 (r .cars), (trains .1 (r .trains), (tracks .1 (r .tracks), (room .1 (r .room), (steps .1 (r .steps), tt))))),
     )
 
 pub sum-passed : (lengths : List ℕ) (n : ℕ) → (sumTest lengths n .number ≡ 0) ↔ (sum lengths ≡ n)
