@@ -1,19 +1,19 @@
 -- Laws of the night card: its length, and that plan and card give back one another.
 use Prim.Native.Nat.{ℕ, zero, suc, _+_, _-_, _*_, _^_, _≤_, _<_}
 use mathlib.Core.Path.{_≡_, refl, sym, ap, _∙_}
-use mathlib.Core.Bool.{Bool, true, false, _&&_}
+use mathlib.Core.Bool.{true}
 use mathlib.Core.List.{List, [], _∷_, _++_}
-use native.Mathlib.Nat.{mul-le-mul, le-trans, le-of-eq}
+use native.Mathlib.Nat.{mul-le-mul}
 use native.Mathlib.Omega.{arith}
 use lib.Dec.{eqb}
 use lib.ListN.{length, getD, take, drop, replicate, length-append, length-drop, length-replicate, take-append-drop}
 use lib.Seq.{take-append-seam, drop-append-seam, drop-at, length-take-le}
 use borrow.Author.Tests.{eqb-true, eq-eqb}
 use Rattle.yard.specs.Words.{every}
-use Rattle.yard.specs.Night.{Night, Plan, sum}
-use Rattle.yard.specs.Card.{headWidths, widths, fields, packed, unpacked, wholeBytes, toBytes, bitsOf, cardLength, card, headField, cardPlan, rightLength, endsRight}
+use Rattle.yard.specs.Night.{Plan, sum}
+use Rattle.yard.specs.Card.{widths, fields, packed, unpacked, wholeBytes, toBytes, bitsOf, cardLength, card, headField, cardPlan, rightLength, endsRight}
 use Rattle.yard.proofs.Bools.{and-left, and-right, and-both}
-use Rattle.yard.proofs.Bits.{Below, Fits, fits-append, fits-run, fits-below, fits-split, sum-append, sum-replicate, length-packed, length-unpacked, packed-below, unpacked-packed, packed-unpacked-enough, unpacked-fits, wholeBytes-exact, length-bitsOf, length-toBytes, bitsOf-below, bitsOf-toBytes, toBytes-bitsOf, toBytes-below, toBytes-zeros}
+use Rattle.yard.proofs.Bits.{Below, Fits, fits-append, fits-run, fits-below, fits-split, sum-append, sum-replicate, length-packed, length-unpacked, packed-below, unpacked-packed, packed-unpacked-enough, unpacked-fits, length-bitsOf, length-toBytes, bitsOf-below, bitsOf-toBytes, toBytes-bitsOf, toBytes-below, toBytes-zeros}
 
 -- The format's widths, those of a plan's card, and those that a card's head gives.
 pub widths-sum : (h n m : ℕ) → sum (widths h n m) ≡ 39 + m * 10 + n * 10 + n * h

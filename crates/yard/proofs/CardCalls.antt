@@ -1,25 +1,26 @@
 -- The card's calls: what the writer writes the reader reads back, what the reader accepts is the card of its plan, and each call has one outcome.
-use Prim.Native.Nat.{ℕ, suc, _^_, _≤_, _<_}
+use Prim.Native.Nat.{ℕ, _^_, _≤_}
 use mathlib.Core.Path.{_≡_, refl, sym, ap, _∙_}
 use mathlib.Core.Logic.{_↔_}
-use mathlib.Core.Bool.{Bool, true, false}
+use mathlib.Core.Bool.{Bool, true, false, cond}
 use mathlib.Core.List.{List, [], _∷_, _++_}
 use native.Mathlib.Nat.{le-refl, le-of-eq}
 use native.Mathlib.Omega.{arith}
 use lib.Dec.{leb, eqb}
-use lib.ListN.{length, getD, take, drop}
+use lib.ListN.{length, take, drop}
+use lib.Seq.{take-append-seam}
 use borrow.Author.Tests.{leb-true, le-leb, eqb-true, eq-eqb}
 use Rattle.yard.specs.declared.Answer.{Answer}
 use Rattle.yard.specs.declared.CardAnswer.{CardAnswer}
 use Rattle.yard.specs.Limits.{Limits, limits}
-use Rattle.yard.specs.Night.{Night, Plan, sum}
+use Rattle.yard.specs.Night.{Plan}
 use Rattle.yard.specs.Answers.{says, test, listTest, codeTest}
 use Rattle.yard.specs.Calls.{countTests, nightCounts, nightTests}
-use Rattle.yard.specs.Card.{cardLength, card, headField, cardPlan, rightLength, endsRight, writerTests, writerAnswer, Writes, readerTests, readerVerdict, readerAnswer, Reads}
-use Rattle.yard.proofs.Verdict.{Passed, passed-append, verdict-passes}
+use Rattle.yard.specs.Card.{card, headField, cardPlan, rightLength, endsRight, writerTests, writerAnswer, Writes, readerTests, readerSays, readerVerdict, readerAnswer, Reads}
+use Rattle.yard.proofs.Verdict.{Passed, passed-append, verdict-passes, verdict-done, written-accepted}
 use Rattle.yard.proofs.Tests.{asks, Within, counts-passed, list-passed, sum-passed, code-passed, inbound-within, item-le-sum}
 use Rattle.yard.proofs.Bits.{Below}
-use Rattle.yard.proofs.Card.{card-length, cardLength-head, card-longest, Fitting, Head, card-heads, cardPlan-card, card-right-length, card-ends-right, cardPlan-head, IsCard, card-cardPlan, cardPlan-fitting}
+use Rattle.yard.proofs.Card.{card-length, cardLength-head, card-longest, Fitting, card-heads, cardPlan-card, card-right-length, card-ends-right, cardPlan-head, IsCard, card-cardPlan, cardPlan-fitting}
 
 -- The writer accepts exactly if counts and lists pass, codes fit, and the buffer is long enough.
 pub record Writable (L : Limits) (p : Plan) (size : ℕ) : Type 0 where
@@ -175,39 +176,129 @@ written-read-back p size a b c e la lb lc =
     } in
     (reader-accepts limits (card p) a b c .1 readable, cardPlan-card p f)
 
--- What the reader accepts is the card of its plan: the writer accepts that plan, and writes those bytes.
-readable-card : (L : Limits) (bytes : List ℕ) (a b c : ℕ) → Below 256 bytes → Readable L bytes a b c → card (cardPlan bytes) ≡ bytes
-readable-card L bytes a b c small r = card-cardPlan bytes (record { small = small; edition = r .edition; ends = r .ends })
+-- What the reader accepts is the card of its plan, and the writer accepts that plan.
+pub accepted-isCard : (L : Limits) (bytes : List ℕ) (a b c : ℕ) → Below 256 bytes → readerVerdict L bytes a b c .number ≡ 0 → IsCard bytes
+accepted-isCard L bytes a b c small e =
+    let r = reader-accepts L bytes a b c .0 e in
+    record { small = small; edition = r .edition; ends = r .ends }
 
-pub accepted-is-the-card : (L : Limits) (bytes : List ℕ) (a b c : ℕ)
+pub accepted-is-the-card : (L : Limits) (bytes : List ℕ) (a b c size : ℕ)
     → Below 256 bytes
     → readerVerdict L bytes a b c .number ≡ 0
-    → (card (cardPlan bytes) ≡ bytes) × (writerAnswer L (cardPlan bytes) (length bytes) .number ≡ 0)
-accepted-is-the-card L bytes a b c small e =
+    → length bytes ≤ size
+    → (card (cardPlan bytes) ≡ bytes) × (writerAnswer L (cardPlan bytes) size .number ≡ 0)
+accepted-is-the-card L bytes a b c size small e h =
     let r = reader-accepts L bytes a b c .0 e in
-    let same = readable-card L bytes a b c small r in
+    let same = card-cardPlan bytes (accepted-isCard L bytes a b c small e) in
     let head = cardPlan-head bytes (r .edition) in
     let f = cardPlan-fitting bytes in
-    let writable : Writable L (cardPlan bytes) (length bytes) =
+    let writable : Writable L (cardPlan bytes) size =
     record {
       counts = rw (head .steps, head .tracks, head .room, head .cars, head .trains) at (r .counts);
       night = r .night;
       coded = f .coded;
       codes = f .codes;
-      room = rw same (le-refl (length bytes));
+      room = rw same h;
     } in
-    (same, writer-accepts L (cardPlan bytes) (length bytes) .1 writable)
+    (same, writer-accepts L (cardPlan bytes) size .1 writable)
 
 pub accepted-longest : (bytes : List ℕ) (a b c : ℕ) → Below 256 bytes → readerVerdict limits bytes a b c .number ≡ 0 → length bytes ≤ 1237
 accepted-longest bytes a b c small e =
-    let back = accepted-is-the-card limits bytes a b c small e in
+    let back = accepted-is-the-card limits bytes a b c (length bytes) small e (le-refl (length bytes)) in
     rw (back .0) at (written-longest (cardPlan bytes) (length bytes) (back .1))
 
-pub accepted-unique : (x y : List ℕ) (a b c : ℕ)
-    → Below 256 x
-    → Below 256 y
-    → readerVerdict limits x a b c .number ≡ 0
-    → readerVerdict limits y a b c .number ≡ 0
-    → cardPlan x ≡ cardPlan y
-    → x ≡ y
-accepted-unique x y a b c sx sy ex ey e = sym (accepted-is-the-card limits x a b c sx ex .0) ∙ ap card e ∙ accepted-is-the-card limits y a b c sy ey .0
+-- What a caller of the reader has in hand after an acceptance: the plan's numbers in the answer, and its lists at the front of the buffers.
+pub record Told (p : Plan) (lengths₀ inbound₀ codes₀ : List ℕ) (r : CardAnswer) (lengths₁ inbound₁ codes₁ : List ℕ) : Type 0 where
+  pub answer : r ≡ readerSays (says 0 0 0) (p .steps) (p .night .tracks) (p .night .room) (length (p .night .inbound)) (length (p .night .lengths))
+  pub lengths : lengths₁ ≡ p .night .lengths ++ drop (length (p .night .lengths)) lengths₀
+  pub inbound : inbound₁ ≡ p .night .inbound ++ drop (length (p .night .inbound)) inbound₀
+  pub codes : codes₁ ≡ p .codes ++ drop (length (p .codes)) codes₀
+
+-- the answer's number is the verdict's
+readerAnswer-number : (L : Limits) (bytes : List ℕ) (a b c : ℕ) → readerAnswer L bytes a b c .number ≡ readerVerdict L bytes a b c .number
+unfolding readerAnswer
+readerAnswer-number L bytes a b c = go (eqb (readerVerdict L bytes a b c .number) 0)
+  where
+    go : (t : Bool)
+        → cond t
+        (readerSays (readerVerdict L bytes a b c) (headField bytes 1) (headField bytes 2) (headField bytes 3) (headField bytes 4) (headField bytes 5))
+        (readerSays (readerVerdict L bytes a b c) 0 0 0 0 0)
+        .number
+        ≡ readerVerdict L bytes a b c .number
+    go true = refl
+    go false = refl
+
+readerAnswer-accepted : (L : Limits) (bytes : List ℕ) (a b c : ℕ)
+    → readerVerdict L bytes a b c .number ≡ 0
+    → readerAnswer L bytes a b c ≡ readerSays (says 0 0 0) (headField bytes 1) (headField bytes 2) (headField bytes 3) (headField bytes 4) (headField bytes 5)
+unfolding readerAnswer readerVerdict
+readerAnswer-accepted L bytes a b c e =
+    rw (verdict-done (readerTests L bytes a b c) (says 0 0 0) e)
+
+module _
+    {bytes lengths₀ inbound₀ codes₀ : List ℕ}
+    {r : CardAnswer}
+    {lengths₁ inbound₁ codes₁ : List ℕ}
+    (reads : Reads bytes lengths₀ inbound₀ codes₀ r lengths₁ inbound₁ codes₁)
+  where
+    reads-number : r .number ≡ readerVerdict limits bytes (length lengths₀) (length inbound₀) (length codes₀) .number
+    reads-number = ap (λ r. r .number) (reads .answer) ∙ readerAnswer-number limits bytes (length lengths₀) (length inbound₀) (length codes₀)
+
+    pub read-told : r .number ≡ 0 → Told (cardPlan bytes) lengths₀ inbound₀ codes₀ r lengths₁ inbound₁ codes₁
+    read-told e =
+        let v = readerVerdict limits bytes (length lengths₀) (length inbound₀) (length codes₀) in
+        let accepted : v .number ≡ 0 = sym reads-number ∙ e in
+        let readable = reader-accepts limits bytes (length lengths₀) (length inbound₀) (length codes₀) .0 accepted in
+        let head = cardPlan-head bytes (readable .edition) in
+        record {
+          answer = rw (head .steps, head .tracks, head .room, head .cars, head .trains) at (reads .answer ∙ readerAnswer-accepted limits bytes (length lengths₀) (length inbound₀) (length codes₀) accepted);
+          lengths = reads .lengths ∙ written-accepted v (cardPlan bytes .night .lengths) lengths₀ accepted;
+          inbound = reads .inbound ∙ written-accepted v (cardPlan bytes .night .inbound) inbound₀ accepted;
+          codes = reads .codes ∙ written-accepted v (cardPlan bytes .codes) codes₀ accepted;
+        }
+
+-- Written, then read: the plan that went in comes out.
+written-bytes : {p : Plan} {before : List ℕ} {w : Answer} {after : List ℕ} → Writes p before w after → w .number ≡ 0 → take (w .a) after ≡ card p
+unfolding writerAnswer
+written-bytes {p} {before} {w} {after} writes e =
+    let accepted : writerAnswer limits p (length before) .number ≡ 0 = sym (ap (λ r. r .number) (writes .answer)) ∙ e in
+    let bytes : after ≡ card p ++ drop (length (card p)) before = writes .bytes ∙ written-accepted (writerAnswer limits p (length before)) (card p) before accepted in
+    let size : w .a ≡ length (card p) = ap (λ r. r .a) (writes .answer ∙ verdict-done (writerTests limits p (length before)) (says 0 (length (card p)) 0) accepted) in
+    rw (bytes, size) (take-append-seam (card p) (drop (length (card p)) before))
+
+pub written-then-read : {p : Plan} {before : List ℕ} {w : Answer} {after lengths₀ inbound₀ codes₀ : List ℕ} {r : CardAnswer} {lengths₁ inbound₁ codes₁ : List ℕ}
+    → Writes p before w after
+    → w .number ≡ 0
+    → Reads (take (w .a) after) lengths₀ inbound₀ codes₀ r lengths₁ inbound₁ codes₁
+    → length (p .night .lengths) ≤ length lengths₀
+    → length (p .night .inbound) ≤ length inbound₀
+    → length (p .codes) ≤ length codes₀
+    → Told p lengths₀ inbound₀ codes₀ r lengths₁ inbound₁ codes₁
+written-then-read {p} {before} {w} {after} {lengths₀} {inbound₀} {codes₀} {r} {lengths₁} {inbound₁} {codes₁} writes e reads l i c =
+    let same : Reads (card p) lengths₀ inbound₀ codes₀ r lengths₁ inbound₁ codes₁ = rw (written-bytes writes e) at reads in
+    let back = written-read-back p (length before) (length lengths₀) (length inbound₀) (length codes₀) (sym (ap (λ r. r .number) (writes .answer)) ∙ e) l i c in
+    rw (back .1) at (read-told same (reads-number same ∙ back .0))
+
+-- Read, then written: the bytes that came in go out.
+pub read-then-written : {bytes lengths₀ inbound₀ codes₀ : List ℕ} {r : CardAnswer} {lengths₁ inbound₁ codes₁ before : List ℕ} {w : Answer} {after : List ℕ}
+    → Below 256 bytes
+    → Reads bytes lengths₀ inbound₀ codes₀ r lengths₁ inbound₁ codes₁
+    → r .number ≡ 0
+    → Writes (cardPlan bytes) before w after
+    → length bytes ≤ length before
+    → (w .number ≡ 0) × (take (w .a) after ≡ bytes)
+read-then-written {bytes} {lengths₀} {inbound₀} {codes₀} {before = before} small reads e writes h =
+    let back = accepted-is-the-card limits bytes (length lengths₀) (length inbound₀) (length codes₀) (length before) small (sym (reads-number reads) ∙ e) h in
+    let accepted = ap (λ r. r .number) (writes .answer) ∙ back .1 in
+    (accepted, written-bytes writes accepted ∙ back .0)
+
+-- Each call leaves one answer and one content of its buffers.
+pub writer-one : {p : Plan} {before : List ℕ} {r s : Answer} {after other : List ℕ} → Writes p before r after → Writes p before s other → (r ≡ s) × (after ≡ other)
+writer-one x y = (x .answer ∙ sym (y .answer), x .bytes ∙ sym (y .bytes))
+
+pub reader-one : {bytes lengths₀ inbound₀ codes₀ : List ℕ} {r s : CardAnswer} {lengths₁ inbound₁ codes₁ lengths₂ inbound₂ codes₂ : List ℕ}
+    → Reads bytes lengths₀ inbound₀ codes₀ r lengths₁ inbound₁ codes₁
+    → Reads bytes lengths₀ inbound₀ codes₀ s lengths₂ inbound₂ codes₂
+    → (r ≡ s) × (lengths₁ ≡ lengths₂) × (inbound₁ ≡ inbound₂) × (codes₁ ≡ codes₂)
+reader-one x y =
+    (x .answer ∙ sym (y .answer), x .lengths ∙ sym (y .lengths), x .inbound ∙ sym (y .inbound), x .codes ∙ sym (y .codes))

@@ -1,5 +1,5 @@
 -- What each test of a call asks for: it is passed exactly if that holds.
-use Prim.Native.Nat.{ℕ, zero, suc, _+_, _-_, _^_, _≤_, _<_}
+use Prim.Native.Nat.{ℕ, zero, suc, _-_, _^_, _≤_, _<_}
 use mathlib.Core.Path.{_≡_, refl}
 use mathlib.Core.Logic.{_↔_, ⊎-elim}
 use mathlib.Core.Bool.{Bool, true, false, not, _&&_, _||_}
@@ -10,7 +10,6 @@ use lib.Dec.{leb, ltb, eqb}
 use lib.ListN.{length, getD, take, List·getD-eq-default}
 use lib.Pow.{pow-pos}
 use borrow.Author.Tests.{leb-true, leb-false, le-leb, lt-leb, ltb-true, lt-ltb, eqb-true, eq-eqb}
-use Rattle.yard.specs.declared.Answer.{Answer}
 use Rattle.yard.specs.Limits.{Limits}
 use Rattle.yard.specs.Words.{first, listed}
 use Rattle.yard.specs.Night.{sum, itemOf}

@@ -1,12 +1,14 @@
 -- Laws of a verdict: the first refusal of a call's tests is its answer, and where every test passes the answer is what the call says.
+use Prim.Native.Nat.{ℕ}
 use mathlib.Core.Path.{_≡_, refl, ap, _∙_}
 use mathlib.Core.Logic.{_↔_}
 use mathlib.Core.Bool.{Bool, true, false, cond}
 use mathlib.Core.List.{List, [], _∷_, _++_}
 use lib.Dec.{eqb}
+use lib.ListN.{length, drop}
 use borrow.Author.Tests.{eqb-true, eqb-false, eq-eqb, ne-eqb}
 use Rattle.yard.specs.declared.Answer.{Answer}
-use Rattle.yard.specs.Answers.{test, verdict}
+use Rattle.yard.specs.Answers.{test, verdict, written}
 
 -- every test of a list is passed
 abbrev pub Passed : List Answer → Type 0
@@ -59,3 +61,13 @@ verdict-passes (t ∷ ts) done = (
       ((front .0, rest .0), rest .1),
   λ p. ap (λ v. v .number) (verdict-passed (t ∷ ts) done (p .0)) ∙ p .1,
 )
+
+pub verdict-done : (ts : List Answer) (done : Answer) → verdict ts done .number ≡ 0 → verdict ts done ≡ done
+verdict-done ts done e = verdict-passed ts done (verdict-passes ts done .0 e .0)
+
+-- a lent buffer after an accepted call, and after a refused one
+pub written-accepted : (r : Answer) (items buffer : List ℕ) → r .number ≡ 0 → written r items buffer ≡ items ++ drop (length items) buffer
+written-accepted r items buffer e = ap (λ b. cond b (items ++ drop (length items) buffer) buffer) (eq-eqb (r .number) 0 e)
+
+pub written-refused : (r : Answer) (items buffer : List ℕ) → (r .number ≡ 0 → ⊥) → written r items buffer ≡ buffer
+written-refused r items buffer h = ap (λ b. cond b (items ++ drop (length items) buffer) buffer) (ne-eqb (r .number) 0 h)
