@@ -111,6 +111,9 @@ unpacked-packed (w ∷ ws) (x ∷ xs) rest f =
     ∙ ap (λ l. x ∷ unpacked ws l) (drop-at (toBits w x) (packed ws xs ++ rest) w (length-toBits w x))
     ∙ ap (λ l. x ∷ l) (unpacked-packed ws xs rest (f .1))
 
+pub unpacked-packed-alone : (ws xs : List ℕ) → Fits ws xs → unpacked ws (packed ws xs) ≡ xs
+unpacked-packed-alone ws xs f = ap (unpacked ws) (sym (append-nil (packed ws xs))) ∙ unpacked-packed ws xs [] f
+
 -- Read, then packed: the bits themselves, 0 standing for those that are missing.
 abbrev pub padded : ℕ → List ℕ → List ℕ
 padded zero bits = []
@@ -190,7 +193,7 @@ unpacked-fits [] bits b = tt
 unpacked-fits (w ∷ ws) bits b = (fromBits-below w bits b, unpacked-fits ws (drop w bits) (below-drop w bits b))
 
 -- zero bits behind change nothing of what is read
-abbrev pub Alike : List ℕ → List ℕ → Type 0
+abbrev Alike : List ℕ → List ℕ → Type 0
 Alike l m = (i : ℕ) → getD l i 0 ≡ getD m i 0
 
 alike-zeros : (k : ℕ) (l : List ℕ) → Alike (l ++ replicate k 0) l
@@ -252,8 +255,7 @@ bitsOf-toBytes bits b =
 pub toBytes-bitsOf : (bytes : List ℕ) → Below 256 bytes → toBytes (bitsOf bytes) ≡ bytes
 toBytes-bitsOf bytes b =
     ap (λ k. unpacked (replicate k 8) (bitsOf bytes)) (ap wholeBytes (length-bitsOf bytes) ∙ wholeBytes-exact (length bytes))
-    ∙ ap (unpacked (replicate (length bytes) 8)) (sym (append-nil (bitsOf bytes)))
-    ∙ unpacked-packed (replicate (length bytes) 8) bytes [] (fits-run (length bytes) 8 bytes refl b)
+    ∙ unpacked-packed-alone (replicate (length bytes) 8) bytes (fits-run (length bytes) 8 bytes refl b)
 
 -- zero bits behind that fill no byte more change nothing
 pub toBytes-zeros : (bits : List ℕ) (k : ℕ) → wholeBytes (length bits + k) ≡ wholeBytes (length bits) → toBytes (bits ++ replicate k 0) ≡ toBytes bits

@@ -15,20 +15,21 @@ use Rattle.yard.specs.Card.{widths, fields, packed, unpacked, wholeBytes
 use Rattle.yard.proofs.Bools.{and-left, and-right, and-both}
 use Rattle.yard.proofs.Bits.{Below, Fits, fits-append, fits-run, fits-below, fits-split, sum-append, sum-replicate, length-packed, length-unpacked, packed-below, unpacked-packed, packed-unpacked-enough, unpacked-fits, length-bitsOf, length-toBytes, bitsOf-below, bitsOf-toBytes, toBytes-bitsOf, toBytes-below, toBytes-zeros}
 
--- The format's widths, those of a plan's card, and those that a card's head gives.
+-- The widths of a card's fields: 39 bits at the head, and 10 for each train, 10 + h for each car.
 pub widths-sum : (h n m : ℕ) → sum (widths h n m) ≡ 39 + m * 10 + n * 10 + n * h
 widths-sum h n m = simp (sum-append, sum-replicate) (omega arith)
 
 pub widths-length : (h n m : ℕ) → length (widths h n m) ≡ 6 + m + n + n
 widths-length h n m = simp (length-append, length-replicate) (omega arith)
 
+-- the widths of the card of a plan, and those that a card's head gives
 abbrev pub planWidths : Plan → List ℕ
 planWidths p = widths (p .steps) (length (p .night .inbound)) (length (p .night .lengths))
 
 abbrev pub cardWidths : List ℕ → List ℕ
 cardWidths bytes = widths (headField bytes 1) (headField bytes 4) (headField bytes 5)
 
--- Length.
+-- Its length: wide enough for the head, longer with each count, 1,237 bytes at the limits.
 fields-length : (p : Plan) → length (p .codes) ≡ length (p .night .inbound) → length (fields p) ≡ length (planWidths p)
 unfolding fields
 fields-length p e = simp (length-append, length-replicate) (omega arith)
@@ -45,15 +46,14 @@ pub cardLength-head : (h n m : ℕ) → 5 ≤ cardLength h n m
 unfolding cardLength
 cardLength-head h n m = omega (arith, widths-sum h n m)
 
-cardLength-longest : cardLength 8 512 64 ≡ 1237
+pub cardLength-longest : cardLength 8 512 64 ≡ 1237
 unfolding cardLength
 cardLength-longest = refl
 
--- no card within the limits is longer than 1,237 bytes, and one of 8 steps, 512 cars and 64 trains is as long
 pub card-longest : (p : Plan) → length (p .codes) ≡ length (p .night .inbound) → p .steps ≤ 8 → length (p .night .inbound) ≤ 512 → length (p .night .lengths) ≤ 64 → length (card p) ≤ 1237
 card-longest p e h n m = omega (arith, card-length p e, cardLength-mono h n m, cardLength-longest)
 
--- What a card has room for.
+-- The plans that a card has room for: each number fits its field, and each car has a code.
 pub record Fitting (p : Plan) : Type 0 where
   pub steps : p .steps < 16
   pub tracks : p .night .tracks < 16
@@ -75,7 +75,7 @@ fields-fit p f =
     let lengths = fits-append (replicate m 10) (p .night .lengths) (replicate n 10 ++ replicate n (p .steps)) (p .night .inbound ++ p .codes) (fits-run m 10 (p .night .lengths) refl (f .lengths)) inbound in
     (omega arith, (f .steps, (f .tracks, (f .room, (f .cars, (f .trains, lengths))))))
 
--- Plan, card, plan.
+-- Plan, card, plan: the fields are read back whole, with the spare zero bits behind them.
 spare : Plan → ℕ
 spare p = cardLength (p .steps) (length (p .night .inbound)) (length (p .night .lengths)) * 8 - sum (planWidths p)
 
@@ -89,10 +89,11 @@ card-fields : (p : Plan) → Fitting p → unpacked (planWidths p) (bitsOf (card
 card-fields p f =
     ap (unpacked (planWidths p)) (card-bits p (f .coded)) ∙ unpacked-packed (planWidths p) (fields p) (replicate (spare p) 0) (fields-fit p f)
 
-card-head : (p : Plan) → Fitting p → (k : ℕ) → headField (card p) k ≡ getD (take 6 (fields p)) k 0
+card-field : (p : Plan) → Fitting p → (k : ℕ) → headField (card p) k ≡ getD (take 6 (fields p)) k 0
 unfolding headField
-card-head p f k = ap (λ l. getD (take 6 l) k 0) (card-fields p f)
+card-field p f k = ap (λ l. getD (take 6 l) k 0) (card-fields p f)
 
+-- the numbers at the head of a card are those of a plan
 pub record Head (p : Plan) (bytes : List ℕ) : Type 0 where
   pub edition : headField bytes 0 ≡ 1
   pub steps : headField bytes 1 ≡ p .steps
@@ -101,24 +102,25 @@ pub record Head (p : Plan) (bytes : List ℕ) : Type 0 where
   pub cars : headField bytes 4 ≡ length (p .night .inbound)
   pub trains : headField bytes 5 ≡ length (p .night .lengths)
 
-pub card-heads : (p : Plan) → Fitting p → Head p (card p)
+pub card-head : (p : Plan) → Fitting p → Head p (card p)
 unfolding fields
-card-heads p f =
-    record { edition = card-head p f 0; steps = card-head p f 1; tracks = card-head p f 2; room = card-head p f 3; cars = card-head p f 4; trains = card-head p f 5 }
+card-head p f =
+    record { edition = card-field p f 0; steps = card-field p f 1; tracks = card-field p f 2; room = card-field p f 3; cars = card-field p f 4; trains = card-field p f 5 }
 
 pub cardPlan-card : (p : Plan) → Fitting p → cardPlan (card p) ≡ p
 unfolding cardPlan fields
 cardPlan-card p f =
-    let head = card-heads p f in
+    let head = card-head p f in
     let body : drop 6 (unpacked (planWidths p) (bitsOf (card p))) ≡ p .night .lengths ++ (p .night .inbound ++ p .codes) = ap (drop 6) (card-fields p f) in
     rw (head .steps, head .tracks, head .room, head .cars, head .trains, body, take-append-seam, drop-append-seam, take-append-seam, drop-append-seam)
 
 pub card-right-length : (p : Plan) → Fitting p → rightLength (card p) ≡ length (card p)
 unfolding rightLength
 card-right-length p f =
-    let head = card-heads p f in
+    let head = card-head p f in
     rw (head .steps, head .cars, head .trains) (sym (card-length p (f .coded)))
 
+-- bits that are all 0
 every-zeros : (k : ℕ) → every (λ b. eqb b 0) (replicate k 0) ≡ true
 every-zeros zero = refl
 every-zeros (suc k) = every-zeros k
@@ -131,7 +133,7 @@ zeros-every (b ∷ l) e =
 
 card-spare : (p : Plan) → Fitting p → drop (sum (cardWidths (card p))) (bitsOf (card p)) ≡ replicate (spare p) 0
 card-spare p f =
-    let head = card-heads p f in
+    let head = card-head p f in
     rw (head .steps, head .cars, head .trains, card-bits p (f .coded))
     (drop-at (packed (planWidths p) (fields p)) (replicate (spare p) 0) (sum (planWidths p)) (length-packed (planWidths p) (fields p) (fields-length p (f .coded))))
 
@@ -142,7 +144,7 @@ card-ends-right p f =
     (ap (every (λ b. eqb b 0)) (card-spare p f) ∙ every-zeros (spare p))
     (eq-eqb (length (card p)) (rightLength (card p)) (sym (card-right-length p f)))
 
--- Card, plan, card. What the head says of a card's plan holds for every list of bytes.
+-- Card, plan, card. The lists of a card's plan are as long as its head says, whatever the bytes.
 abbrev cardFields : List ℕ → List ℕ
 cardFields bytes = unpacked (cardWidths bytes) (bitsOf bytes)
 
@@ -207,7 +209,7 @@ unfolding card
 card-isCard p f =
     record {
       small = toBytes-below (packed (planWidths p) (fields p)) (packed-below (planWidths p) (fields p));
-      edition = card-heads p f .edition;
+      edition = card-head p f .edition;
       ends = card-ends-right p f;
     }
 

@@ -20,7 +20,7 @@ use Rattle.yard.specs.Card.{card, headField, cardPlan, rightLength, ends
 use Rattle.yard.proofs.Verdict.{Passed, passed-append, verdict-passes, verdict-done, written-accepted}
 use Rattle.yard.proofs.Tests.{asks, Within, counts-passed, list-passed, sum-passed, code-passed, inbound-within, item-le-sum}
 use Rattle.yard.proofs.Bits.{Below}
-use Rattle.yard.proofs.Card.{card-length, cardLength-head, card-longest, Fitting, card-heads, cardPlan-card, card-right-length, card-ends-right, cardPlan-head, IsCard, card-cardPlan, cardPlan-fitting}
+use Rattle.yard.proofs.Card.{card-length, cardLength-head, card-longest, Fitting, card-head, cardPlan-card, card-right-length, card-ends-right, cardPlan-head, IsCard, card-cardPlan, cardPlan-fitting}
 
 -- The writer accepts exactly if counts and lists pass, codes fit, and the buffer is long enough.
 pub record Writable (L : Limits) (p : Plan) (size : ℕ) : Type 0 where
@@ -127,7 +127,7 @@ reader-accepts L bytes a b c =
           all .1 (t, refl),
     )
 
--- A plan that the writer accepts fits a card.
+-- A plan that the writer accepts fits a card: no train is longer than the night, and every inbound number is a car's.
 writable-fitting : (p : Plan) (size : ℕ) → Writable limits p size → Fitting p
 writable-fitting p size w =
     let n = length (p .night .inbound) in
@@ -161,7 +161,7 @@ pub written-read-back : (p : Plan) (size a b c : ℕ)
 written-read-back p size a b c e la lb lc =
     let w = writer-accepts limits p size .0 e in
     let f = writable-fitting p size w in
-    let head = card-heads p f in
+    let head = card-head p f in
     let readable : Readable limits (card p) a b c =
     record {
       edition = head .edition;
