@@ -57,10 +57,6 @@ fits-split (w ∷ ws) vs (x ∷ xs) f =
     let rest = fits-split ws vs xs (f .1) in
     ((f .0, rest .0), rest .1)
 
-pub sum-append : (ws vs : List ℕ) → sum (ws ++ vs) ≡ sum ws + sum vs
-sum-append [] vs = sym (zero-add (sum vs))
-sum-append (w ∷ ws) vs = omega (arith, sum-append ws vs)
-
 pub sum-replicate : (n w : ℕ) → sum (replicate n w) ≡ n * w
 sum-replicate zero w = sym (zero-mul w)
 sum-replicate (suc n) w = omega (arith, sum-replicate n w, suc-mul n w)

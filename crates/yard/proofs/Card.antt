@@ -13,11 +13,12 @@ use Rattle.yard.specs.Words.{every}
 use Rattle.yard.specs.Night.{Plan, sum}
 use Rattle.yard.specs.Card.{widths, fields, packed, unpacked, wholeBytes, toBytes, bitsOf, cardLength, card, headField, cardPlan, rightLength, endsRight}
 use Rattle.yard.proofs.Bools.{and-left, and-right, and-both}
-use Rattle.yard.proofs.Bits.{Below, Fits, fits-append, fits-run, fits-below, fits-split, sum-append, sum-replicate, length-packed, length-unpacked, packed-below, unpacked-packed, packed-unpacked-enough, unpacked-fits, length-bitsOf, length-toBytes, bitsOf-below, bitsOf-toBytes, toBytes-bitsOf, toBytes-below, toBytes-zeros}
+use Rattle.yard.proofs.Lists.{total-append}
+use Rattle.yard.proofs.Bits.{Below, Fits, fits-append, fits-run, fits-below, fits-split, sum-replicate, length-packed, length-unpacked, packed-below, unpacked-packed, packed-unpacked-enough, unpacked-fits, length-bitsOf, length-toBytes, bitsOf-below, bitsOf-toBytes, toBytes-bitsOf, toBytes-below, toBytes-zeros}
 
 -- The widths of a card's fields: 39 bits at the head, and 10 for each train, 10 + h for each car.
 pub widths-sum : (h n m : ℕ) → sum (widths h n m) ≡ 39 + m * 10 + n * 10 + n * h
-widths-sum h n m = simp (sum-append, sum-replicate) (omega arith)
+widths-sum h n m = simp (total-append, sum-replicate) (omega arith)
 
 pub widths-length : (h n m : ℕ) → length (widths h n m) ≡ 6 + m + n + n
 widths-length h n m = simp (length-append, length-replicate) (omega arith)
