@@ -51,7 +51,12 @@ pub cardLength-longest : cardLength 8 512 64 ≡ 1237
 unfolding cardLength
 cardLength-longest = refl
 
-pub card-longest : (p : Plan) → length (p .codes) ≡ length (p .night .inbound) → p .steps ≤ 8 → length (p .night .inbound) ≤ 512 → length (p .night .lengths) ≤ 64 → length (card p) ≤ 1237
+pub card-longest : (p : Plan)
+    → length (p .codes) ≡ length (p .night .inbound)
+    → p .steps ≤ 8
+    → length (p .night .inbound) ≤ 512
+    → length (p .night .lengths) ≤ 64
+    → length (card p) ≤ 1237
 card-longest p e h n m = omega (arith, card-length p e, cardLength-mono h n m, cardLength-longest)
 
 -- The plans that a card has room for: each number fits its field, and each car has a code.
@@ -72,9 +77,11 @@ fields-fit p f =
     let n = length (p .night .inbound) in
     let m = length (p .night .lengths) in
     let codes = fits-run n (p .steps) (p .codes) (f .coded) (f .codes) in
-    let inbound = fits-append (replicate n 10) (p .night .inbound) (replicate n (p .steps)) (p .codes) (fits-run n 10 (p .night .inbound) refl (f .inbound)) codes in
-    let lengths = fits-append (replicate m 10) (p .night .lengths) (replicate n 10 ++ replicate n (p .steps)) (p .night .inbound ++ p .codes) (fits-run m 10 (p .night .lengths) refl (f .lengths)) inbound in
-    (omega arith, (f .steps, (f .tracks, (f .room, (f .cars, (f .trains, lengths))))))
+    let inbound = fits-run n 10 (p .night .inbound) refl (f .inbound) in
+    let lengths = fits-run m 10 (p .night .lengths) refl (f .lengths) in
+    let cars = fits-append (replicate n 10) (p .night .inbound) (replicate n (p .steps)) (p .codes) inbound codes in
+    let body = fits-append (replicate m 10) (p .night .lengths) (replicate n 10 ++ replicate n (p .steps)) (p .night .inbound ++ p .codes) lengths cars in
+    (omega arith, (f .steps, (f .tracks, (f .room, (f .cars, (f .trains, body))))))
 
 -- Plan, card, plan: the fields are read back whole, with the spare zero bits behind them.
 spare : Plan → ℕ

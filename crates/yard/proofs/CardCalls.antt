@@ -250,8 +250,9 @@ module _
         let accepted : v .number ≡ 0 = sym reads-number ∙ e in
         let readable = reader-accepts limits bytes (length lengths₀) (length inbound₀) (length codes₀) .0 accepted in
         let head = cardPlan-head bytes (readable .edition) in
+        let says = reads .answer ∙ readerAnswer-accepted limits bytes (length lengths₀) (length inbound₀) (length codes₀) accepted in
         record {
-          answer = rw (head .steps, head .tracks, head .room, head .cars, head .trains) at (reads .answer ∙ readerAnswer-accepted limits bytes (length lengths₀) (length inbound₀) (length codes₀) accepted);
+          answer = rw (head .steps, head .tracks, head .room, head .cars, head .trains) at says;
           lengths = reads .lengths ∙ written-accepted v (cardPlan bytes .night .lengths) lengths₀ accepted;
           inbound = reads .inbound ∙ written-accepted v (cardPlan bytes .night .inbound) inbound₀ accepted;
           codes = reads .codes ∙ written-accepted v (cardPlan bytes .codes) codes₀ accepted;
