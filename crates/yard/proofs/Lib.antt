@@ -12,3 +12,8 @@ pub mod Sorting
 pub mod Standing
 pub mod Counting
 pub mod Trains
+pub mod Verdict
+pub mod Bits
+pub mod Tests
+pub mod Card
+pub mod CardCalls
