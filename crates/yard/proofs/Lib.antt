@@ -17,3 +17,6 @@ pub mod Bits
 pub mod Tests
 pub mod Card
 pub mod CardCalls
+pub mod Formed
+pub mod Plans
+pub mod Building
