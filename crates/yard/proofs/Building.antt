@@ -213,6 +213,12 @@ module _ (p : Plan) (f : Listed (p .night .lengths) (p .night .inbound)) (formed
       below car w = formed .below car (w .0, omega (arith, w .1, formed .each))
 
   -- the trains are built in order exactly if no pair breaks the rule
+  pub ruled-of-builds : BuildsTrains p → (i j : ℕ) → i < length (p .night .lengths) → firstCar (p .night .lengths) (suc i) ≤ j → suc j < firstCar (p .night .lengths) (suc i) + itemOf (p .night .lengths) (suc i) → ruled (codeOf p j) (codeOf p (suc j)) (broken (p .night .inbound) j) ≡ true
+  unfolding BuildsTrains
+  ruled-of-builds builds i j m a b =
+      sym (built-before i j m a b) ∙
+      (ap (λ (u : List ℕ). before j (suc j) u) (builds (suc i) (omega arith, m)) ∙ upFrom-before (firstCar (p .night .lengths) (suc i)) (itemOf (p .night .lengths) (suc i)) j a b)
+
   rule-of-builds : BuildsTrains p → (j : ℕ) → 1 ≤ j → j < length (p .night .inbound) → unruled p j ≡ false
   unfolding BuildsTrains
   rule-of-builds builds j l m = not-so (unruled p j) (λ e. breaks e (train-cars lengths inbound f j (l, omega arith)) (train-cars lengths inbound f (suc j) (omega arith, m)))
@@ -233,10 +239,7 @@ module _ (p : Plan) (f : Listed (p .night .lengths) (p .night .inbound)) (formed
       breaks e r s =
           let q : s .0 ≡ r .0 = suc-inj (sym (s .2) ∙ (sym (eqb-true (trainOf lengths j) (trainOf lengths (suc j)) (and-left (pair lengths j) (not rule) e)) ∙ r .2)) in
           let b : suc j < firstCar lengths (suc (r .0)) + itemOf lengths (suc (r .0)) = omega (arith, s .4, ap (λ (k : ℕ). firstCar lengths (suc k) + itemOf lengths (suc k)) q) in
-          clash
-          (sym (built-before (r .0) j (r .1) (r .3) b) ∙
-          (ap (λ (u : List ℕ). before j (suc j) u) (builds (suc (r .0)) (omega arith, r .1)) ∙ upFrom-before (firstCar lengths (suc (r .0))) (itemOf lengths (suc (r .0))) j (r .3) b))
-          (not-true rule (and-right (pair lengths j) (not rule) e))
+          clash (ruled-of-builds builds (r .0) j (r .1) (r .3) b) (not-true rule (and-right (pair lengths j) (not rule) e))
 
   builds-of-rule : ((j : ℕ) → 1 ≤ j → j < length (p .night .inbound) → unruled p j ≡ false) → BuildsTrains p
   unfolding BuildsTrains

@@ -20,3 +20,5 @@ pub mod CardCalls
 pub mod Formed
 pub mod Plans
 pub mod Building
+pub mod Least
+pub mod DerivedPlan

@@ -1,0 +1,222 @@
+-- The derived plan: its codes are usable, rise at each break, and so pull no car early and build the trains.
+use mathlib.Core.Path.{_≡_, refl, sym, ap, ap₂, _∙_, subst}
+use mathlib.Core.Logic.{_⊎_, inl, inr, ⊎-elim}
+use mathlib.Core.Bool.{Bool, true, false, cond, not, _&&_}
+use mathlib.Core.List.{List, [], _∷_, map}
+use Prim.Native.Nat.{ℕ, zero, suc, _+_, _-_, _^_, _≤_, _<_}
+use native.Mathlib.Nat.{le-refl, eq-or-lt-of-le, add-zero, add-suc, suc-add, suc-inj}
+use native.Mathlib.Omega.{arith}
+use lib.Dec.{leb, ltb, eqb}
+use lib.ListN.{length, getD, take, length-map}
+use borrow.Author.Tests.{leb-true, le-leb, ltb-true, lt-ltb, eqb-true}
+use Rattle.yard.specs.Words.{tally, count, keep, first, upFrom}
+use Rattle.yard.specs.Night.{Night, Plan, cars, itemOf, trainOf, firstCar, pair, broken, breaks, breaksIn, breaksBefore, mostBreaks}
+use Rattle.yard.specs.Replay.{codeOf}
+use Rattle.yard.specs.Codes.{usable, usableCodes, codeNumber, F, fewestSteps}
+use Rattle.yard.specs.Derived.{stepsNeeded, derivedCodes, derivedPlan}
+use Rattle.yard.specs.Answers.{ruled, unruled}
+use Rattle.yard.specs.Demands.{Within, Listed, CodesFormed, NeverEarly, BuildsTrains, Sorts}
+use Rattle.yard.proofs.Bools.{split, clash, and-left, and-right, not-so, not-true}
+use Rattle.yard.proofs.First.{first-le, first-hit}
+use Rattle.yard.proofs.Lists.{count-kept, count-upFrom-in, upFrom-bounds, length-upFrom}
+use Rattle.yard.proofs.Counting.{F-above}
+use Rattle.yard.proofs.Trains.{firstCar-suc, itemOf-suc, most-above, breaks-suc}
+use Rattle.yard.proofs.Formed.{count-at}
+use Rattle.yard.proofs.Plans.{never-gaps, usable-gaps}
+use Rattle.yard.proofs.Building.{train-cars, came-within, builds-ruled}
+use Rattle.yard.proofs.Least.{F-usable}
+
+-- ---- lists by number
+
+pub map-item : (g : ℕ → ℕ) (a n i : ℕ) → i < n → getD (map g (upFrom a n)) i 0 ≡ g (a + i)
+map-item g a zero i m = absurd (omega arith)
+map-item g a (suc n) zero m = ap g (sym (add-zero a))
+map-item g a (suc n) (suc i) m = map-item g (suc a) n i (omega arith) ∙ ap g (suc-add a i ∙ sym (add-suc a i))
+
+pub by-car : (g : ℕ → ℕ) (n car : ℕ) → Within 1 n car → itemOf (map g (cars n)) car ≡ g car
+by-car g n car w =
+    let e : 1 + (car - 1) ≡ car = omega (arith, w .0) in
+    map-item g 1 n (car - 1) (omega (arith, w .0, w .1)) ∙ ap g e
+
+pub length-by-car : (g : ℕ → ℕ) (n : ℕ) → length (map g (cars n)) ≡ n
+length-by-car g n = length-map (cars n) g ∙ length-upFrom 1 n
+
+-- the numbers kept of those from a on pass, and rise
+pub kept-item : (p : ℕ → Bool) (a n q : ℕ) → q < length (keep p (upFrom a n)) → (p (getD (keep p (upFrom a n)) q 0) ≡ true) × (a ≤ getD (keep p (upFrom a n)) q 0) × (getD (keep p (upFrom a n)) q 0 < a + n)
+kept-item p a n q m =
+    let x : ℕ = getD (keep p (upFrom a n)) q 0 in
+    let k = count-kept x p (upFrom a n) (omega (arith, count-at (keep p (upFrom a n)) q m)) in
+    let b = upFrom-bounds x a n (k .1) in
+    (k .0, b .0, b .1)
+
+pub kept-rising : (p : ℕ → Bool) (a n q r : ℕ) → q < r → r < length (keep p (upFrom a n)) → getD (keep p (upFrom a n)) q 0 < getD (keep p (upFrom a n)) r 0
+kept-rising p a zero q r l m = absurd (omega arith)
+kept-rising p a (suc n) q r l m = go (p a) q r l m (kept-rising p (suc a) n) (kept-item p (suc a) n)
+  where
+    rest : List ℕ
+    rest = keep p (upFrom (suc a) n)
+
+    go :
+        (b : Bool) (q r : ℕ) → q < r → r < length (cond b (a ∷ rest) rest) →
+        ((q r : ℕ) → q < r → r < length rest → getD rest q 0 < getD rest r 0) →
+        ((q : ℕ) → q < length rest → (p (getD rest q 0) ≡ true) × (suc a ≤ getD rest q 0) × (getD rest q 0 < suc a + n)) →
+        getD (cond b (a ∷ rest) rest) q 0 < getD (cond b (a ∷ rest) rest) r 0
+    go false q r l m later item = later q r l m
+    go true zero zero l m later item = absurd (omega arith)
+    go true zero (suc r) l m later item = item r (omega arith) .1
+    go true (suc q) zero l m later item = absurd (omega arith)
+    go true (suc q) (suc r) l m later item = later q r (omega arith) (omega arith)
+
+-- ---- code numbers
+
+module _ (W h : ℕ) (pos : 0 < W) where
+  pub codeNumber-usable : (q : ℕ) → q < F W h → (usable W h (codeNumber W h q) ≡ true) × (codeNumber W h q < 2 ^ h)
+  unfolding codeNumber usableCodes
+  codeNumber-usable q m =
+      let k = kept-item (usable W h) 0 (2 ^ h) q (omega (arith, F-usable W h pos)) in
+      (k .0, omega (arith, k .2))
+
+  pub codeNumber-rising : (q r : ℕ) → q < r → r < F W h → codeNumber W h q < codeNumber W h r
+  unfolding codeNumber usableCodes
+  codeNumber-rising q r l m = kept-rising (usable W h) 0 (2 ^ h) q r l (omega (arith, F-usable W h pos))
+
+-- the fewest steps give a code for each number of breaks
+pub fewest-enough : (W c : ℕ) → 0 < W → c < F W (fewestSteps W c)
+unfolding fewestSteps
+fewest-enough W c pos =
+    ⊎-elim
+    (λ e. subst (λ (h : ℕ). c < F W h) (sym e) (F-above W c pos))
+    (λ m. leb-true (suc c) (F W (first (λ h. leb (suc c) (F W h)) c 0)) (first-hit (λ h. leb (suc c) (F W h)) c 0 (omega arith)))
+    (eq-or-lt-of-le (within (first-le (λ h. leb (suc c) (F W h)) c 0)))
+  where
+    within : first (λ h. leb (suc c) (F W h)) c 0 ≤ 0 + c → first (λ h. leb (suc c) (F W h)) c 0 ≤ c
+    within l = omega arith
+
+-- ---- breaks along a train
+
+pub breaks-mono : (inbound : List ℕ) (j d n : ℕ) → breaks inbound j n ≤ breaks inbound j (n + d)
+breaks-mono inbound j zero n = omega (arith, ap (λ (k : ℕ). breaks inbound j k) (add-zero n))
+breaks-mono inbound j (suc d) n = omega (arith, breaks-mono inbound j d n, ap (λ (k : ℕ). breaks inbound j k) (add-suc n d), breaks-suc inbound j (n + d))
+
+module _ (n : Night) (f : Listed (n .lengths) (n .inbound)) where
+  pub before-most : (car : ℕ) → Within 1 (length (n .inbound)) car → breaksBefore (n .lengths) (n .inbound) car ≤ mostBreaks (n .lengths) (n .inbound)
+  before-most car w =
+      let r = train-cars (n .lengths) (n .inbound) f car w in
+      let head : ℕ = firstCar (n .lengths) (suc (r .0)) in
+      let len : ℕ = itemOf (n .lengths) (suc (r .0)) in
+      let d : ℕ = len - 1 - (car - head) in
+      let e : car - head + d ≡ len - 1 = omega (arith, r .3, r .4) in
+      omega (
+        arith,
+        ap (λ (t : ℕ). breaks (n .inbound) (firstCar (n .lengths) t) (car - firstCar (n .lengths) t)) (r .2),
+        breaks-mono (n .inbound) head d (car - head),
+        ap (λ (k : ℕ). breaks (n .inbound) head k) e,
+        most-above (breaksIn (n .lengths) (n .inbound)) (upFrom 1 (length (n .lengths))) (suc (r .0)) (omega (arith, count-upFrom-in (suc (r .0)) 1 (length (n .lengths)) (omega arith) (omega (arith, r .1)))),
+      )
+
+  pub before-pair : (j : ℕ) → 1 ≤ j → j < length (n .inbound) → pair (n .lengths) j ≡ true → breaksBefore (n .lengths) (n .inbound) (suc j) ≡ breaksBefore (n .lengths) (n .inbound) j + tally (broken (n .inbound) j)
+  before-pair j l m e =
+      let r = train-cars (n .lengths) (n .inbound) f j (l, omega arith) in
+      let head : ℕ = firstCar (n .lengths) (suc (r .0)) in
+      let s : suc j - head ≡ suc (j - head) = omega (arith, r .3) in
+      let back : head + (j - head) ≡ j = omega (arith, r .3) in
+      let next : trainOf (n .lengths) (suc j) ≡ suc (r .0) = sym (eqb-true (trainOf (n .lengths) j) (trainOf (n .lengths) (suc j)) e) ∙ r .2 in
+      omega (
+        arith,
+        ap (λ (t : ℕ). breaks (n .inbound) (firstCar (n .lengths) t) (suc j - firstCar (n .lengths) t)) next,
+        ap (λ (t : ℕ). breaks (n .inbound) (firstCar (n .lengths) t) (j - firstCar (n .lengths) t)) (r .2),
+        ap (λ (k : ℕ). breaks (n .inbound) head k) s,
+        breaks-suc (n .inbound) head (j - head),
+        ap (λ (k : ℕ). tally (broken (n .inbound) k)) back,
+      )
+
+  -- ---- the derived plan
+
+  module _ (pos : 0 < n .tracks) where
+    number : ℕ → ℕ
+    number car = breaksBefore (n .lengths) (n .inbound) car
+
+    pub derived-code : (car : ℕ) → Within 1 (length (n .inbound)) car → codeOf (derivedPlan n) car ≡ codeNumber (n .tracks) (stepsNeeded n) (breaksBefore (n .lengths) (n .inbound) car)
+    unfolding derivedPlan derivedCodes
+    derived-code car w = by-car (λ c. codeNumber (n .tracks) (stepsNeeded n) (breaksBefore (n .lengths) (n .inbound) c)) (length (n .inbound)) car w
+
+    pub derived-length : length (derivedCodes n) ≡ length (n .inbound)
+    unfolding derivedCodes
+    derived-length = length-by-car (λ c. codeNumber (n .tracks) (stepsNeeded n) (breaksBefore (n .lengths) (n .inbound) c)) (length (n .inbound))
+
+    -- there is a code for each number of breaks
+    number-fits : (car : ℕ) → Within 1 (length (n .inbound)) car → number car < F (n .tracks) (stepsNeeded n)
+    unfolding number stepsNeeded
+    number-fits car w = omega (arith, before-most car w, fewest-enough (n .tracks) (mostBreaks (n .lengths) (n .inbound)) pos)
+
+    derived-formed : CodesFormed (derivedPlan n)
+    unfolding derivedPlan number
+    derived-formed =
+        record {
+          each = derived-length;
+          below =
+              λ car w.
+              let v : Within 1 (length (n .inbound)) car = (w .0, omega (arith, w .1, derived-length)) in
+              subst (λ (c : ℕ). c < 2 ^ stepsNeeded n) (sym (derived-code car v)) (codeNumber-usable (n .tracks) (stepsNeeded n) pos (number car) (number-fits car v) .1);
+        }
+
+    derived-never : NeverEarly (derivedPlan n)
+    unfolding derivedPlan number
+    derived-never =
+        never-gaps (derivedPlan n) pos .1
+        (λ car m.
+        let w : Within 1 (length (n .inbound)) car = came-within (n .lengths) (n .inbound) f car m in
+        usable-gaps (n .tracks) (stepsNeeded n) (codeOf (derivedPlan n) car) pos .0
+        (subst (λ (c : ℕ). usable (n .tracks) (stepsNeeded n) c ≡ true) (sym (derived-code car w)) (codeNumber-usable (n .tracks) (stepsNeeded n) pos (number car) (number-fits car w) .0)))
+
+    derived-ruled : (j : ℕ) → 1 ≤ j → j < length (n .inbound) → pair (n .lengths) j ≡ true → ruled (codeOf (derivedPlan n) j) (codeOf (derivedPlan n) (suc j)) (broken (n .inbound) j) ≡ true
+    unfolding number
+    derived-ruled j l m e = go (broken (n .inbound) j) refl
+      where
+        W : ℕ
+        W = n .tracks
+
+        H : ℕ
+        H = stepsNeeded n
+
+        here : Within 1 (length (n .inbound)) j
+        here = (l, omega arith)
+
+        next : Within 1 (length (n .inbound)) (suc j)
+        next = (omega arith, m)
+
+        go : (b : Bool) → broken (n .inbound) j ≡ b → ruled (codeOf (derivedPlan n) j) (codeOf (derivedPlan n) (suc j)) b ≡ true
+        go true b =
+            lt-ltb (codeOf (derivedPlan n) j) (codeOf (derivedPlan n) (suc j))
+            (omega (
+              arith,
+              derived-code j here,
+              derived-code (suc j) next,
+              codeNumber-rising W H pos (number j) (number (suc j)) (omega (arith, before-pair j l m e, ap tally b)) (number-fits (suc j) next),
+            ))
+        go false b =
+            le-leb (codeOf (derivedPlan n) j) (codeOf (derivedPlan n) (suc j))
+            (omega (
+              arith,
+              derived-code j here,
+              derived-code (suc j) next,
+              ap (λ (q : ℕ). codeNumber W H q) (same (before-pair j l m e) (ap tally b)),
+            ))
+          where
+            same : number (suc j) ≡ number j + tally (broken (n .inbound) j) → tally (broken (n .inbound) j) ≡ 0 → number (suc j) ≡ number j
+            same p q = omega arith
+
+    pub derived-sorts : Sorts (derivedPlan n)
+    unfolding derivedPlan
+    derived-sorts =
+        record {
+          codes = derived-formed;
+          never = derived-never;
+          builds =
+              builds-ruled (derivedPlan n) f derived-formed derived-never .1
+              (λ j l m.
+              not-so (unruled (derivedPlan n) j)
+              (λ e.
+              let rule : Bool = ruled (codeOf (derivedPlan n) j) (codeOf (derivedPlan n) (suc j)) (broken (n .inbound) j) in
+              clash (derived-ruled j l m (and-left (pair (n .lengths) j) (not rule) e)) (not-true rule (and-right (pair (n .lengths) j) (not rule) e))));
+        }

@@ -1,0 +1,139 @@
+-- Least steps: a plan that pulls no car early and builds the trains has at least the fewest steps, and the derived plan of that many steps does both.
+use mathlib.Core.Path.{_≡_, refl, sym, ap, ap₂, _∙_, subst}
+use mathlib.Core.Logic.{_⊎_, inl, inr, ⊎-elim, _↔_}
+use mathlib.Core.Bool.{Bool, true, false, cond, not, _&&_}
+use mathlib.Core.List.{List, [], _∷_, map}
+use Prim.Native.Nat.{ℕ, zero, suc, _+_, _-_, _^_, _≤_, _<_}
+use native.Mathlib.Nat.{le-refl, le-trans, eq-or-lt-of-le, add-zero, add-suc, suc-add, zero-add, suc-inj}
+use native.Mathlib.Omega.{arith}
+use lib.Dec.{leb, ltb, eqb}
+use lib.ListN.{length, getD, take, length-map}
+use borrow.Author.Tests.{leb-true, le-leb, ltb-true, lt-ltb, eqb-true}
+use Rattle.yard.specs.Words.{tally, total, count, keep, first, upFrom}
+use Rattle.yard.specs.Night.{Night, Plan, cars, sum, itemOf, trainOf, firstCar, carsOf, pair, broken, breaks, breaksIn, breaksBefore, mostBreaks}
+use Rattle.yard.specs.Replay.{bit, codeOf}
+use Rattle.yard.specs.Codes.{usable, usableCodes, codeNumber, F, fewestSteps}
+use Rattle.yard.specs.Derived.{stepsNeeded, derivedCodes, derivedPlan}
+use Rattle.yard.specs.Answers.{ruled, unruled}
+use Rattle.yard.specs.Demands.{Within, Listed, CodesFormed, NeverEarly, BuildsTrains, Sorts}
+use Rattle.yard.proofs.Bools.{split, clash, and-left, and-right, not-so, not-true}
+use Rattle.yard.proofs.Numbers.{le-or-lt}
+use Rattle.yard.proofs.First.{first-from, first-le, first-hit, first-least}
+use Rattle.yard.proofs.Lists.{count-kept, count-upFrom-in, upFrom-bounds, length-upFrom}
+use Rattle.yard.proofs.Codes.{total-last}
+use Rattle.yard.proofs.Counting.{passing, total-split, length-passing, F-counts, F-above}
+use Rattle.yard.proofs.Trains.{firstCar-suc, most-above, most-reached, breaks-suc, breaksBefore-train}
+use Rattle.yard.proofs.Formed.{count-at}
+use Rattle.yard.proofs.Plans.{never-gaps, usable-gaps}
+use Rattle.yard.proofs.Building.{train-cars, cars-train, came-once, builds-ruled, ruled-of-builds}
+
+-- ---- counting what passes
+
+pub passing-mono : (p : ℕ → Bool) (m n : ℕ) → m ≤ n → passing p m ≤ passing p n
+passing-mono p m n l =
+    let e : n ≡ m + (n - m) = omega arith in
+    omega (arith, ap (λ (k : ℕ). passing p k) e, total-split (λ x. tally (p x)) 0 m (n - m))
+
+pub passing-suc : (p : ℕ → Bool) (x : ℕ) → p x ≡ true → passing p (suc x) ≡ suc (passing p x)
+passing-suc p x e = omega (arith, total-last (λ x. tally (p x)) 0 x, ap (λ (k : ℕ). tally (p k)) (zero-add x), ap tally e)
+
+pub usable-count : (W h : ℕ) → 0 < W → passing (usable W h) (2 ^ h) ≡ F W h
+usable-count W h pos = F-counts W pos (usable W) (λ h x. usable-gaps W h x pos) h
+
+-- F(h) is how many codes below 2^h are usable
+pub F-usable : (W h : ℕ) → 0 < W → length (usableCodes W h) ≡ F W h
+unfolding usableCodes
+F-usable W h pos = length-passing (usable W h) 0 (2 ^ h) ∙ usable-count W h pos
+
+-- ---- no plan has fewer steps
+
+module _ (p : Plan) (f : Listed (p .night .lengths) (p .night .inbound)) (pos : 0 < p .night .tracks) (sorts : Sorts p) where
+  u : ℕ → Bool
+  u = usable (p .night .tracks) (p .steps)
+
+  car-usable : (car : ℕ) → Within 1 (length (p .night .inbound)) car → u (codeOf p car) ≡ true
+  unfolding u
+  car-usable car w =
+      usable-gaps (p .night .tracks) (p .steps) (codeOf p car) pos .1
+      (never-gaps p pos .0 (sorts .never) car (omega (arith, came-once (p .night .lengths) (p .night .inbound) f car w)))
+
+  -- the breaks before a car are at most the usable codes below its own
+  breaks-below : (i d : ℕ) → i < length (p .night .lengths) → d < itemOf (p .night .lengths) (suc i) → breaks (p .night .inbound) (firstCar (p .night .lengths) (suc i)) d ≤ passing u (codeOf p (firstCar (p .night .lengths) (suc i) + d))
+  breaks-below i zero m b = omega arith
+  breaks-below i (suc d) m b = go (broken inbound j) refl (ruled-of-builds p f (sorts .codes) (sorts .never) (sorts .builds) i j m (omega arith) (omega arith)) (breaks-below i d m (omega arith))
+    where
+      inbound : List ℕ
+      inbound = p .night .inbound
+
+      head : ℕ
+      head = firstCar (p .night .lengths) (suc i)
+
+      j : ℕ
+      j = head + d
+
+      next : passing u (codeOf p (suc j)) ≡ passing u (codeOf p (head + suc d))
+      next = ap (λ (c : ℕ). passing u (codeOf p c)) (sym (add-suc head d))
+
+      go : (brk : Bool) → broken inbound j ≡ brk → ruled (codeOf p j) (codeOf p (suc j)) brk ≡ true → breaks inbound head d ≤ passing u (codeOf p j) → breaks inbound head (suc d) ≤ passing u (codeOf p (head + suc d))
+      go true e rule le =
+          omega (
+            arith,
+            next,
+            breaks-suc inbound head d,
+            ap tally e,
+            passing-suc u (codeOf p j) (car-usable j (cars-train (p .night .lengths) inbound f i j m (omega arith) (omega arith) .1)),
+            passing-mono u (suc (codeOf p j)) (codeOf p (suc j)) (ltb-true (codeOf p j) (codeOf p (suc j)) rule),
+          )
+      go false e rule le =
+          omega (
+            arith,
+            next,
+            breaks-suc inbound head d,
+            ap tally e,
+            passing-mono u (codeOf p j) (codeOf p (suc j)) (leb-true (codeOf p j) (codeOf p (suc j)) rule),
+          )
+
+  -- so the breaks of a train, and one more, are at most the usable codes there are
+  train-breaks : (t : ℕ) → Within 1 (length (p .night .lengths)) t → breaksIn (p .night .lengths) (p .night .inbound) t < F (p .night .tracks) (p .steps)
+  unfolding u
+  train-breaks zero w = absurd (omega (arith, w .0))
+  train-breaks (suc i) w =
+      omega (
+        arith,
+        breaks-below i d (w .1) (omega (arith, some)),
+        passing-suc u (codeOf p last) (car-usable last (here .1)),
+        passing-mono u (suc (codeOf p last)) (2 ^ p .steps) (sorts .codes .below last (here .1 .0, omega (arith, here .1 .1, sorts .codes .each))),
+        usable-count (p .night .tracks) (p .steps) pos,
+      )
+    where
+      some : 1 ≤ itemOf (p .night .lengths) (suc i)
+      some = f .nonempty (suc i) w
+
+      d : ℕ
+      d = itemOf (p .night .lengths) (suc i) - 1
+
+      last : ℕ
+      last = firstCar (p .night .lengths) (suc i) + d
+
+      here : (trainOf (p .night .lengths) last ≡ suc i) × Within 1 (length (p .night .inbound)) last
+      here = cars-train (p .night .lengths) (p .night .inbound) f i last (w .1) (omega arith) (omega (arith, some))
+
+  pub least-steps : 1 ≤ length (p .night .lengths) → stepsNeeded (p .night) ≤ p .steps
+  unfolding stepsNeeded fewestSteps
+  least-steps some = reached (most-reached (breaksIn lengths inbound) (upFrom 1 (length lengths)) (omega (arith, length-upFrom 1 (length lengths))))
+    where
+      lengths : List ℕ
+      lengths = p .night .lengths
+
+      inbound : List ℕ
+      inbound = p .night .inbound
+
+      c : ℕ
+      c = mostBreaks lengths inbound
+
+      reached : ((t : ℕ) × (0 < count t (upFrom 1 (length lengths))) × (breaksIn lengths inbound t ≡ c)) → fewestSteps (p .night .tracks) c ≤ p .steps
+      reached r =
+          let b = upFrom-bounds (r .0) 1 (length lengths) (r .1) in
+          let enough : c < F (p .night .tracks) (p .steps) = omega (arith, r .2, train-breaks (r .0) (b .0, omega (arith, b .1))) in
+          ⊎-elim (λ le. le) (λ far. omega (arith, first-le (λ h. leb (suc c) (F (p .night .tracks) h)) c 0))
+          (first-least (λ h. leb (suc c) (F (p .night .tracks) h)) c 0 (p .steps) (omega arith) (le-leb (suc c) (F (p .night .tracks) (p .steps)) enough))
