@@ -1,36 +1,31 @@
--- What the demands speak of, in plain statements: a well-formed night, well-formed codes, and what a good replay does.
+-- What the demands speak of, in plain statements: a well-formed night, well-formed codes, what a good replay does, and what each call asks of its input.
 use Prim.Native.Nat.{ℕ, _≤_, _<_, _^_}
 use mathlib.Core.Path.{_≡_}
+use mathlib.Core.Logic.{_⊎_}
 use mathlib.Core.Bool.{true}
-use mathlib.Core.List.{List}
+use mathlib.Core.List.{List, [], _∷_, _++_}
 use lib.ListN.{length}
 use Rattle.yard.specs.Words.{count}
 use Rattle.yard.specs.Limits.{Limits}
 use Rattle.yard.specs.Night.{Night, Plan, cars, sum, itemOf, carsOf}
 use Rattle.yard.specs.Replay.{bit, codeOf, pulled, pullSize, built}
+use Rattle.yard.specs.Derived.{derivedPlan}
 
 -- x lies in a range
 abbrev pub Within : ℕ → ℕ → ℕ → Type 0
 Within low high x = (low ≤ x) × (x ≤ high)
 
--- the lists of a night: no train is empty, the lengths add up to the cars, and the inbound list has each car once and nothing else
-pub record Listed (lengths inbound : List ℕ) : Type 0 where
-  pub nonempty : (t : ℕ) → Within 1 (length lengths) t → 1 ≤ itemOf lengths t
-  pub adds : sum lengths ≡ length inbound
-  pub once : (car : ℕ) → count car inbound ≡ count car (cars (length inbound))
+-- no train is empty
+abbrev pub NoneEmpty : List ℕ → Type 0
+NoneEmpty lengths = (t : ℕ) → Within 1 (length lengths) t → 1 ≤ itemOf lengths t
 
--- a night within the limits
-pub record NightFormed (L : Limits) (n : Night) : Type 0 where
-  pub cars : Within 1 (L .cars) (length (n .inbound))
-  pub trains : Within 1 (L .trains) (length (n .lengths))
-  pub tracks : Within 1 (L .tracks) (n .tracks)
-  pub room : Within 1 (L .room) (n .room)
-  pub lists : Listed (n .lengths) (n .inbound)
+-- the inbound list has each car once and nothing else: as often as the list 1 to n has it
+abbrev pub EachOnce : List ℕ → Type 0
+EachOnce inbound = (car : ℕ) → count car inbound ≡ count car (cars (length inbound))
 
--- one code for each car, each below 2^h
-pub record CodesFormed (p : Plan) : Type 0 where
-  pub each : length (p .codes) ≡ length (p .night .inbound)
-  pub below : (car : ℕ) → Within 1 (length (p .codes)) car → codeOf p car < 2 ^ p .steps
+-- each code is below 2^h
+abbrev pub CodesBelow : ℕ → List ℕ → Type 0
+CodesBelow h codes = (car : ℕ) → Within 1 (length codes) car → itemOf codes car < 2 ^ h
 
 -- the replay pulls no car in a step its code does not name
 unfoldable pub NeverEarly : Plan → Type 0
@@ -44,8 +39,86 @@ HasRoom p = (k : ℕ) → k < p .steps → pullSize p k ≤ p .night .room
 unfoldable pub BuildsTrains : Plan → Type 0
 BuildsTrains p = (t : ℕ) → Within 1 (length (p .night .lengths)) t → built p t ≡ carsOf (p .night .lengths) t
 
--- room aside, a plan that builds the trains of its night
+-- the lists of a night, and the codes of a plan, are well formed
+pub record Listed (lengths inbound : List ℕ) : Type 0 where
+  pub nonempty : NoneEmpty lengths
+  pub adds : sum lengths ≡ length inbound
+  pub once : EachOnce inbound
+
+pub record CodesFormed (p : Plan) : Type 0 where
+  pub each : length (p .codes) ≡ length (p .night .inbound)
+  pub below : CodesBelow (p .steps) (p .codes)
+
+-- room aside, a plan that builds the trains of its night; and a night for which one keeps to a step limit, whatever codes it gives
 pub record Sorts (p : Plan) : Type 0 where
   pub codes : CodesFormed p
   pub never : NeverEarly p
   pub builds : BuildsTrains p
+
+pub record Sortable (n : Night) (limit : ℕ) : Type 0 where
+  pub steps : ℕ
+  pub codes : List ℕ
+  pub within : steps ≤ limit
+  pub sorts : Sorts (record { night = n; steps = steps; codes = codes })
+
+-- A call asks one thing after the other, each with the number by which it refuses.
+pub record Reason : Type 1 where
+  pub number : ℕ
+  pub asked : Type 0
+
+abbrev pub AllHold : List Reason → Type 0
+AllHold [] = Unit
+AllHold (r ∷ reasons) = r .asked × AllHold reasons
+
+-- the first thing that does not hold has number k
+abbrev pub FirstFails : ℕ → List Reason → Type 0
+FirstFails k [] = ⊥
+FirstFails k (r ∷ reasons) = ((r .asked → ⊥) × (r .number ≡ k)) ⊎ (r .asked × FirstFails k reasons)
+
+abbrev pub asks : ℕ → Type 0 → Reason
+asks number asked = record { number = number; asked = asked }
+
+abbrev pub countReasons : Limits → Night → ℕ → List Reason
+countReasons L n h =
+    asks 1 (Within 1 (L .cars) (length (n .inbound))) ∷
+    asks 1 (Within 1 (L .trains) (length (n .lengths))) ∷
+    asks 1 (Within 1 (L .tracks) (n .tracks)) ∷
+    asks 1 (Within 1 (L .room) (n .room)) ∷
+    asks 1 (Within 0 (L .steps) h) ∷
+    []
+
+abbrev pub nightReasons : Night → List Reason
+nightReasons n = asks 2 (NoneEmpty (n .lengths)) ∷ asks 2 (sum (n .lengths) ≡ length (n .inbound)) ∷ asks 3 (EachOnce (n .inbound)) ∷ []
+
+abbrev pub deriveReasons : Limits → Night → ℕ → ℕ → List Reason
+deriveReasons L n limit size =
+    countReasons L n limit ++
+    (nightReasons n ++
+    (asks 4 (length (n .inbound) ≤ size) ∷
+    asks 5 (Sortable n limit) ∷
+    asks 6 (HasRoom (derivedPlan n)) ∷
+    []))
+
+abbrev pub checkReasons : Limits → Plan → List Reason
+checkReasons L p =
+    countReasons L (p .night) (p .steps) ++
+    (nightReasons (p .night) ++
+    (asks 4 (length (p .codes) ≡ length (p .night .inbound)) ∷
+    asks 7 (CodesBelow (p .steps) (p .codes)) ∷
+    asks 8 (NeverEarly p) ∷
+    asks 6 (HasRoom p) ∷
+    asks 9 (BuildsTrains p) ∷
+    []))
+
+abbrev pub replayReasons : Limits → Plan → ℕ → ℕ → ℕ → List Reason
+replayReasons L p stage trackSize placeSize =
+    countReasons L (p .night) (p .steps) ++
+    (asks 1 (Within 0 (p .steps) stage) ∷
+    (nightReasons (p .night) ++
+    (asks 4 (length (p .codes) ≡ length (p .night .inbound)) ∷
+    asks 4 (length (p .night .inbound) ≤ trackSize) ∷
+    asks 4 (length (p .night .inbound) ≤ placeSize) ∷
+    asks 7 (CodesBelow (p .steps) (p .codes)) ∷
+    asks 8 (NeverEarly p) ∷
+    asks 6 (HasRoom p) ∷
+    [])))
