@@ -8,5 +8,6 @@ pub mod Derived
 pub mod Answers
 pub mod Calls
 pub mod Card
+pub mod Price
 
 -- pub mod Demands
