@@ -1,0 +1,3 @@
+-- Laws about the written meaning.
+pub mod PriceDoubles
+pub mod Price
