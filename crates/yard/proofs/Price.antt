@@ -6,7 +6,7 @@ use native.Mathlib.Omega.{arith}
 use mathlib.Core.Path.{_≡_, refl, sym, ap, _∙_, subst, subst⁻¹}
 use mathlib.Core.Logic.{_↔_, _⊎_, inl, inr}
 use mathlib.Core.List.{[], _∷_}
-use mathlib.Core.Bool.{Bool, true, false, not, _&&_, true≢false}
+use mathlib.Core.Bool.{Bool, true, false, cond, not, _&&_, true≢false}
 use lib.Dec.{T, leb, ltb, eqb, lit<, lit≤, leb→le, le→leb, eqb→eq, leb·zero}
 use lib.IntN.{ℤ, pos, negsuc}
 use lib.Pow.{shl-lt}
@@ -108,9 +108,6 @@ holds : (b : Bool) → T b ⊎ T (not b)
 holds true = inl tt
 holds false = inr tt
 
-abbrev pub refused : ℕ → ℕ → PriceAnswer
-refused number a = record { number = number; a = a; b = 0; price = positiveZero }
-
 pub record AllHold (L : Limits) (steps passes : ℕ) (t : Timings) : Type 0 where
   pub stepsIn : steps ≤ L .steps
   pub passesIn : passes ≤ L .passes
@@ -119,18 +116,17 @@ pub record AllHold (L : Limits) (steps passes : ℕ) (t : Timings) : Type 0 wher
 
 module _ (L : Limits) (steps passes : ℕ) (t : Timings) where
   pub data Told : PriceAnswer → Type 0 where
-    stepsOut : L .steps < steps → Told (refused 1 5)
-    passesOut : steps ≤ L .steps → L .passes < passes → Told (refused 1 7)
-    pullOut : steps ≤ L .steps → passes ≤ L .passes → T (not (timing (t .pull))) → Told (refused 13 1)
-    pushOut : steps ≤ L .steps → passes ≤ L .passes → T (timing (t .pull)) → T (not (timing (t .push))) → Told (refused 13 2)
-    done : AllHold L steps passes t → Told (record { number = 0; a = 0; b = 0; price = seconds (priceWorth steps passes t) })
+    stepsOut : L .steps < steps → Told (priced (says 1 5 0) positiveZero)
+    passesOut : steps ≤ L .steps → L .passes < passes → Told (priced (says 1 7 0) positiveZero)
+    pullOut : steps ≤ L .steps → passes ≤ L .passes → T (not (timing (t .pull))) → Told (priced (says 13 1 0) positiveZero)
+    pushOut : steps ≤ L .steps → passes ≤ L .passes → T (timing (t .pull)) → T (not (timing (t .push))) → Told (priced (says 13 2 0) positiveZero)
+    done : AllHold L steps passes t → Told (priced (says 0 0 0) (seconds (priceWorth steps passes t)))
 
   -- what is answered once each test is known
   abbrev tested : Bool → Bool → Bool → Bool → PriceAnswer
   tested stepsOk passesOk pullOk pushOk =
-      priced
-      (verdict (test stepsOk (says 1 5 0) ∷ test passesOk (says 1 7 0) ∷ test pullOk (says 13 1 0) ∷ test pushOk (says 13 2 0) ∷ []) (says 0 0 0))
-      (seconds (priceWorth steps passes t))
+      let r = verdict (test stepsOk (says 1 5 0) ∷ test passesOk (says 1 7 0) ∷ test pullOk (says 13 1 0) ∷ test pushOk (says 13 2 0) ∷ []) (says 0 0 0) in
+      priced r (cond (eqb (r .number) 0) (seconds (priceWorth steps passes t)) positiveZero)
 
   pub told-answer : {r : PriceAnswer} → Told r → priceAnswer L steps passes t ≡ r
   unfolding priceAnswer
@@ -222,6 +218,9 @@ module _ (L : Limits) (small : L .steps + L .passes ≤ 2 ^ 36) where
   pub prices-eq : (n o : PricedNight L) → eq (price n) (price o) ≡ eqb (worth n) (worth o)
   prices-eq = prices-as eq-values
 
--- ---- For every input one answer.
+-- ---- What keeps the promise of price: an answer that is told; and for every input there is one.
+pub told-prices : (steps passes : ℕ) (t : Timings) {r r′ : PriceAnswer} → r ≡ r′ → Told limits steps passes t r′ → Prices steps passes t r
+told-prices steps passes t e told = record { answer = e ∙ sym (told-answer limits steps passes t told) }
+
 pub price-one : (steps passes : ℕ) (t : Timings) (r r′ : PriceAnswer) → Prices steps passes t r → Prices steps passes t r′ → r ≡ r′
 price-one steps passes t r r′ p q = p .answer ∙ sym (q .answer)

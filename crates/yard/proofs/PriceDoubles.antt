@@ -3,9 +3,9 @@ use Prim.Native.Nat.{ℕ, _+_, _-_, _*_, _/_, _^_, _≤_, _<_}
 use native.Mathlib.Nat.{mul-pos, mul-assoc, mul-right-comm, mul-mul-mul-comm, mul-lt-mul-of-pos-right, lt-of-mul-lt-mul-right, eq-of-mul-eq-mul-right, le-of-lt, le-of-eq, lt-of-not-le, le-antisymm}
 use native.Mathlib.Decide.{decLe}
 use mathlib.Core.Path.{_≡_, refl, sym, ap, _∙_}
-use mathlib.Core.Bool.{Bool, true, false, _&&_, _||_, cond}
+use mathlib.Core.Bool.{Bool, true, false, not, _&&_, _||_, cond}
 use lib.Dec.{T, leb, ltb, eqb, ltb→lt, lt→ltb, leb→le, le→leb, eqb→eq}
-use lib.Ieee.{Float, fin, Format, prec, low, hid, top, up, down, size, unlike, below, level, round, mul, lt, eq, le, fits, toBits, ofBits}
+use lib.Ieee.{Float, fin, Format, prec, low, hid, top, up, down, size, unlike, below, level, round, mul, lt, eq, le, fits, isNan, toBits, ofBits}
 use lib.Ieee.Fits.{down-pos, eq→eqb}
 use lib.Ieee.Exact.{HasValue}
 use lib.Ieee.Nearest.{div-same}
@@ -27,6 +27,10 @@ bits-of f (fin t m e) s a c C v =
 pub value-unique : (f : Format) (x y : Float) (s : Bool) (a c : ℕ) → 0 < c → T (fits f x) → T (fits f y) → HasValue x s a c → HasValue y s a c → x ≡ y
 value-unique f x y s a c C p q v w =
     sym (ofBits-toBits f x p) ∙ ap (ofBits f) (bits-of f x s a c C v ∙ sym (bits-of f y s a c C w)) ∙ ofBits-toBits f y q
+
+pub value-number : (x : Float) (s : Bool) (a c : ℕ) → HasValue x s a c → T (not (isNan x))
+unfolding isNan
+value-number (fin t m e) s a c v = tt
 
 pub mul-values : (f : Format) (x y : Float) (a c b d : ℕ) → 0 < c → 0 < d → HasValue x false a c → HasValue y false b d → mul f x y ≡ round f false (a * b) (c * d)
 unfolding mul

@@ -48,12 +48,14 @@ priceTests L steps passes t =
 abbrev pub priceWorth : ℕ → ℕ → Timings → ℕ
 priceWorth steps passes t = steps * sixteenths (t .pull) + passes * sixteenths (t .push)
 
--- an answer with its double: the price where all is done, positive zero where it is refused
+-- an answer with its double
 abbrev pub priced : Answer → Float → PriceAnswer
-priced r price = record { number = r .number; a = r .a; b = r .b; price = cond (eqb (r .number) 0) price positiveZero }
+priced r price = record { number = r .number; a = r .a; b = r .b; price = price }
 
 unfoldable pub priceAnswer : Limits → ℕ → ℕ → Timings → PriceAnswer
-priceAnswer L steps passes t = priced (verdict (priceTests L steps passes t) (says 0 0 0)) (seconds (priceWorth steps passes t))
+priceAnswer L steps passes t =
+    let r = verdict (priceTests L steps passes t) (says 0 0 0) in
+    priced r (cond (eqb (r .number) 0) (seconds (priceWorth steps passes t)) positiveZero)
 
 -- what price promises
 pub record Prices (steps passes : ℕ) (t : Timings) (r : PriceAnswer) : Type 0 where
