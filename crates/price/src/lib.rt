@@ -10,7 +10,7 @@ const MOST_STEPS: usize = 8;
 const MOST_PASSES: usize = 4608;
 
 // What a double is as a timing: so many sixteenths of a second, or not allowed.
-pub enum Timing {
+enum Timing {
     Sixteenths(u64),
     NotAllowed,
 }
@@ -69,17 +69,19 @@ fn done(steps: usize, passes: usize, pull: u64, push: u64) -> yard::PriceAnswer
 pub fn price(steps: usize, passes: usize, timings: yard::Timings) -> yard::PriceAnswer
     ensures { λ r. ⌜ meaning.Prices steps passes timings r ⌝ }
 {
+    let pull = timings.pull;
+    let push = timings.push;
     if MOST_STEPS < steps {
         return refused(1, 5);
     }
     if MOST_PASSES < passes {
         return refused(1, 7);
     }
-    let Timing::Sixteenths(pull) = timing_of(timings.pull) else {
+    let Timing::Sixteenths(pull_worth) = timing_of(pull) else {
         return refused(13, 1);
     };
-    let Timing::Sixteenths(push) = timing_of(timings.push) else {
+    let Timing::Sixteenths(push_worth) = timing_of(push) else {
         return refused(13, 2);
     };
-    done(steps, passes, pull, push)
+    done(steps, passes, pull_worth, push_worth)
 }

@@ -42,8 +42,8 @@ returns-2 c =
 timing-of-requires : tie.Need-timing-of-requires
 timing-of-requires c κs = search needs
 
-enum-known-pull : tie.Need-enum-known-pull
-enum-known-pull c = search needs
+enum-known-pull-worth : tie.Need-enum-known-pull-worth
+enum-known-pull-worth c = search needs
 
 enum-told : tie.Need-enum-told
 enum-told c = search needs
@@ -61,8 +61,8 @@ returns-3 c =
 timing-of-requires-2 : tie.Need-timing-of-requires-2
 timing-of-requires-2 c κs = search needs
 
-enum-known-push : tie.Need-enum-known-push
-enum-known-push c = search needs
+enum-known-push-worth : tie.Need-enum-known-push-worth
+enum-known-push-worth c = search needs
 
 enum-told-2 : tie.Need-enum-told-2
 enum-told-2 c = search needs
@@ -71,12 +71,12 @@ refused-requires-4 : tie.Need-refused-requires-4
 refused-requires-4 c κs = search needs
 
 -- where the pull's sixteenths are bound: the arguments, and that the pull is a timing worth as much
-abbrev start : tie.After-pull → tie.Start
+abbrev start : tie.After-pull-worth → tie.Start
 start c = c .before .before .before .before .before
 
-pullAllowed : (c : tie.After-pull) → T (timing (start c .args .timings .pull)) × (c .pull .given .0 .0 ≡ sixteenths (start c .args .timings .pull))
+pullAllowed : (c : tie.After-pull-worth) → T (timing (start c .args .timings .pull)) × (c .pull-worth .given .0 .0 ≡ sixteenths (start c .args .timings .pull))
 pullAllowed c =
-    allowed (timing (start c .args .timings .pull)) (c .pull .given .0 .0) (sixteenths (start c .args .timings .pull)) (sym (c .pull .given .1) ∙ c .before .before .timing-of .ensures)
+    allowed (timing (start c .args .timings .pull)) (c .pull-worth .given .0 .0) (sixteenths (start c .args .timings .pull)) (sym (c .pull-worth .given .1) ∙ c .before .before .timing-of .ensures)
 
 returns-4 : tie.Need-returns-4
 returns-4 c =
@@ -87,20 +87,20 @@ returns-4 c =
     told-prices (a .steps) (a .passes) (a .timings) (c .refused4 .ensures) (pushOut (counts .before .if1 .left) (counts .if2 .left) (pullAllowed bound .0) refusal)
 
 -- where the push's are bound too: the same of the push, so all tests hold and the sum is the price's sixteenths
-abbrev bound : tie.After-push → tie.After-pull
+abbrev bound : tie.After-push-worth → tie.After-pull-worth
 bound c = c .before .before .before .before
 
-pushAllowed : (c : tie.After-push) → T (timing (start (bound c) .args .timings .push)) × (c .push .given .0 .0 ≡ sixteenths (start (bound c) .args .timings .push))
+pushAllowed : (c : tie.After-push-worth) → T (timing (start (bound c) .args .timings .push)) × (c .push-worth .given .0 .0 ≡ sixteenths (start (bound c) .args .timings .push))
 pushAllowed c =
     let push = start (bound c) .args .timings .push in
-    allowed (timing push) (c .push .given .0 .0) (sixteenths push) (sym (c .push .given .1) ∙ c .before .before .timing-of2 .ensures)
+    allowed (timing push) (c .push-worth .given .0 .0) (sixteenths push) (sym (c .push-worth .given .1) ∙ c .before .before .timing-of2 .ensures)
 
-allHold : (c : tie.After-push) → AllHold limits (start (bound c) .args .steps) (start (bound c) .args .passes) (start (bound c) .args .timings)
+allHold : (c : tie.After-push-worth) → AllHold limits (start (bound c) .args .steps) (start (bound c) .args .passes) (start (bound c) .args .timings)
 allHold c =
     let counts = bound c .before .before .before in
     record { stepsIn = counts .before .if1 .left; passesIn = counts .if2 .left; pullIn = pullAllowed (bound c) .0; pushIn = pushAllowed c .0 }
 
-worth-is : (c : tie.After-push) → start (bound c) .args .steps * bound c .pull .given .0 .0 + start (bound c) .args .passes * c .push .given .0 .0 ≡ priceWorth (start (bound c) .args .steps) (start (bound c) .args .passes) (start (bound c) .args .timings)
+worth-is : (c : tie.After-push-worth) → start (bound c) .args .steps * bound c .pull-worth .given .0 .0 + start (bound c) .args .passes * c .push-worth .given .0 .0 ≡ priceWorth (start (bound c) .args .steps) (start (bound c) .args .passes) (start (bound c) .args .timings)
 worth-is c = λ i. start (bound c) .args .steps * pullAllowed (bound c) .1 i + start (bound c) .args .passes * pushAllowed c .1 i
 
 done-requires : tie.Need-done-requires
@@ -122,12 +122,12 @@ price-spec =
     refused-requires-2
     returns-2
     timing-of-requires
-    enum-known-pull
+    enum-known-pull-worth
     enum-told
     refused-requires-3
     returns-3
     timing-of-requires-2
-    enum-known-push
+    enum-known-push-worth
     enum-told-2
     refused-requires-4
     returns-4
