@@ -3,8 +3,8 @@ use Prim.Native.Nat.{ℕ, _+_, _*_, _/_, _^_, _≤_, _<_, zero-le}
 use native.Mathlib.Nat.{div-lt-iff-lt-mul, lt-of-le-of-lt, lt-of-lt-of-le, le-of-lt}
 use native.Mathlib.Omega.{arith}
 use mathlib.Core.Path.{_≡_, refl, sym, ap, _∙_, subst, subst⁻¹}
-use mathlib.Core.Bool.{Bool, true, false, cond, not, false≢true, true≢false}
-use lib.Dec.{T, ltb, lit<, lit≤, lt→ltb, le→leb, not-T}
+use mathlib.Core.Bool.{true, false, cond, not, false≢true, true≢false}
+use lib.Dec.{T, lit<, lit≤, lt→ltb, le→leb, not-T}
 use lib.IntN.{pos}
 use lib.Ieee.{Float, nan, inf, fin, binary64, up, down, lt, mul, fits, isNan, ofInt, ofBits, toBits, toUnsigned, inFloat}
 use lib.Ieee.Fits.{down-pos}

@@ -5,6 +5,7 @@ ghost use Prim.Native.Nat.{_+_, _*_, _<_, _^_};
 ghost use Rattle.yard.specs.Answers.{says};
 ghost use Rattle.yard.specs.Price as meaning;
 
+// The limits of document 01.
 const MOST_STEPS: usize = 8;
 
 const MOST_PASSES: usize = 4608;

@@ -1,6 +1,6 @@
 -- The laws of the price of a night: what a timing is, that the price is exact, how prices compare, and when which answer is given.
 use Prim.Native.Nat.{ℕ, _+_, _*_, _/_, _%_, _^_, _≤_, _<_}
-use native.Mathlib.Nat.{lt-of-le-of-lt, lt-of-lt-of-le, le-of-lt, mul-assoc, mul-one, one-mul, mul-le-mul-left, mul-div-cancel, mul-mod-left, div-add-mod', add-zero, lt-of-not-le}
+use native.Mathlib.Nat.{lt-of-le-of-lt, lt-of-lt-of-le, le-of-lt, mul-assoc, mul-one, mul-le-mul-left, mul-div-cancel, mul-mod-left, div-add-mod', add-zero, lt-of-not-le}
 use native.Mathlib.Decide.{decLe}
 use native.Mathlib.Omega.{arith}
 use mathlib.Core.Path.{_≡_, refl, sym, ap, _∙_, subst, subst⁻¹}
@@ -8,7 +8,7 @@ use mathlib.Core.Logic.{_↔_, _⊎_, inl, inr}
 use mathlib.Core.List.{[], _∷_}
 use mathlib.Core.Bool.{Bool, true, false, cond, not, _&&_, true≢false}
 use lib.Dec.{T, leb, ltb, eqb, lit<, lit≤, leb→le, le→leb, eqb→eq, leb·zero}
-use lib.IntN.{ℤ, pos, negsuc}
+use lib.IntN.{pos, negsuc}
 use lib.Pow.{shl-lt}
 use lib.Ieee.{Float, fin, binary64, up, down, mul, lt, eq, le, fits, ofInt}
 use lib.Ieee.Fits.{round-fits, down-pos, and-l, and-r, and-i, eq→eqb}
@@ -108,6 +108,7 @@ holds : (b : Bool) → T b ⊎ T (not b)
 holds true = inl tt
 holds false = inr tt
 
+-- the four tests of a call, as facts
 pub record AllHold (L : Limits) (steps passes : ℕ) (t : Timings) : Type 0 where
   pub stepsIn : steps ≤ L .steps
   pub passesIn : passes ≤ L .passes
@@ -115,6 +116,7 @@ pub record AllHold (L : Limits) (steps passes : ℕ) (t : Timings) : Type 0 wher
   pub pushIn : T (timing (t .push))
 
 module _ (L : Limits) (steps passes : ℕ) (t : Timings) where
+  -- the answers that may be given, each with all that must hold for it
   pub data Told : PriceAnswer → Type 0 where
     stepsOut : L .steps < steps → Told (priced (says 1 5 0) positiveZero)
     passesOut : steps ≤ L .steps → L .passes < passes → Told (priced (says 1 7 0) positiveZero)

@@ -1,5 +1,5 @@
 -- Doubles by their value: one value is one double, order is that of the fractions, and an exact product is rounded once.
-use Prim.Native.Nat.{ℕ, _+_, _-_, _*_, _/_, _^_, _≤_, _<_}
+use Prim.Native.Nat.{ℕ, _+_, _-_, _*_, _/_, _^_, _<_}
 use native.Mathlib.Nat.{mul-pos, mul-assoc, mul-right-comm, mul-mul-mul-comm, mul-lt-mul-of-pos-right, lt-of-mul-lt-mul-right, eq-of-mul-eq-mul-right, le-of-lt, le-of-eq, lt-of-not-le, le-antisymm}
 use native.Mathlib.Decide.{decLe}
 use mathlib.Core.Path.{_≡_, refl, sym, ap, _∙_}

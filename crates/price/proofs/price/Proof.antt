@@ -5,7 +5,6 @@ use mathlib.Core.Bool.{Bool, true, false, cond, not}
 use lib.Dec.{T}
 use native.Mathlib.Omega.{arith}
 use borrow.Author.Needs.{needs}
-use Rattle.price.specs.declared.Timing.{Timing}
 use Rattle.price.specs.declared.Timing.the-variants.{Sixteenths, NotAllowed}
 use Rattle.yard.specs.Limits.{limits}
 use Rattle.yard.specs.Answers.{says}
