@@ -4,16 +4,17 @@ use native.Mathlib.Nat.{div-lt-iff-lt-mul, lt-of-le-of-lt, lt-of-lt-of-le, le-of
 use native.Mathlib.Omega.{arith}
 use mathlib.Core.Path.{_≡_, refl, sym, ap, _∙_, subst, subst⁻¹}
 use mathlib.Core.Bool.{true, false, cond, not, false≢true, true≢false}
-use lib.Dec.{T, lit<, lit≤, lt→ltb, le→leb, not-T}
+use lib.Dec.{T, lit<, lit≤, lt→ltb, le→leb}
 use lib.IntN.{pos}
 use lib.Ieee.{Float, nan, inf, fin, binary64, up, down, lt, mul, fits, isNan, ofInt, ofBits, toBits, toUnsigned, inFloat}
 use lib.Ieee.Fits.{down-pos}
 use lib.Ieee.Exact.{HasValue}
 use lib.Ieee.Back.{round-whole, unsigned-back}
-use lib.Ieee.Bits.{ofBits-toBits, is-true, cond-no}
+use lib.Ieee.Bits.{ofBits-toBits}
 use borrow.Author.Tests.{lt-ltb, ltb-true}
 use Rattle.yard.specs.Price.{seconds, sixteenths, timing}
 use Rattle.yard.proofs.Price.{sixteen, sixteen-times, seconds-fits, seconds-worth, seconds-timing, timing-seconds, timing-most}
+use Rattle.yard.proofs.Bools.{not-so}
 use Rattle.yard.proofs.PriceDoubles.{lt-values}
 
 abbrev pub scaled : Float → Float
@@ -52,7 +53,7 @@ above (fin false m e) a c v = lt-ltb 0 (1 * down e + m * up e * 1) (omega (arith
 
 module _ (x : Float) (fit : T (fits binary64 x)) where
   -- a timing passes the tests, and its sixteenths are what the cut leaves
-  module _ (t : T (timing x)) where
+  module _ (t : timing x ≡ true) where
     few : sixteenths x < 2 ^ 53
     few = lt-of-le-of-lt (timing-most x t) (lit< tt)
 
@@ -79,8 +80,8 @@ module _ (x : Float) (fit : T (fits binary64 x)) where
 
   -- what the way ends in: k sixteenths, and the double y that they are worth
   module _ {A : Type 0} (sixteenthsAs : ℕ → A) (notAllowed : A) where
-    pub declined : (T (timing x) → ⊥) → notAllowed ≡ cond (timing x) (sixteenthsAs (sixteenths x)) notAllowed
-    declined h = sym (cond-no (timing x) (sixteenthsAs (sixteenths x)) notAllowed (not-T (timing x) h))
+    pub declined : (timing x ≡ true → ⊥) → notAllowed ≡ cond (timing x) (sixteenthsAs (sixteenths x)) notAllowed
+    declined h = rw (not-so (timing x) h)
 
     module _ (k : ℕ) (y : Float) (cut : k ≡ toUnsigned 64 (scaled x)) (worth : y ≡ seconds k) where
       pub accepted : Between (scaled x) → toBits binary64 y ≡ toBits binary64 x → sixteenthsAs k ≡ cond (timing x) (sixteenthsAs (sixteenths x)) notAllowed
@@ -90,7 +91,7 @@ module _ (x : Float) (fit : T (fits binary64 x)) where
           let same : seconds k ≡ x = sym (ofBits-toBits binary64 (seconds k) (seconds-fits k)) ∙ ap (ofBits binary64) (ap (toBits binary64) (sym worth) ∙ e) ∙ ofBits-toBits binary64 x fit in
           sym
           (subst (λ (z : Float). cond (timing z) (sixteenthsAs (sixteenths z)) notAllowed ≡ sixteenthsAs k) same
-          (rw (is-true (timing (seconds k)) (seconds-timing k most), seconds-worth k small)))
+          (rw (seconds-timing k most, seconds-worth k small)))
 
       pub unlike-bits : (toBits binary64 y ≡ toBits binary64 x → ⊥) → notAllowed ≡ cond (timing x) (sixteenthsAs (sixteenths x)) notAllowed
       unlike-bits h = declined (λ t. h (ap (toBits binary64) (worth ∙ ap seconds (cut ∙ timing-cut t) ∙ sym (timing-seconds x fit t))))

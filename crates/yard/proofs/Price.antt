@@ -1,27 +1,27 @@
 -- The laws of the price of a night: what a timing is, that the price is exact, how prices compare, and when which answer is given.
 use Prim.Native.Nat.{ℕ, _+_, _*_, _/_, _%_, _^_, _≤_, _<_}
-use native.Mathlib.Nat.{lt-of-le-of-lt, lt-of-lt-of-le, le-of-lt, mul-assoc, mul-one, mul-le-mul-left, mul-div-cancel, mul-mod-left, div-add-mod', add-zero, lt-of-not-le}
-use native.Mathlib.Decide.{decLe}
+use native.Mathlib.Nat.{lt-of-le-of-lt, lt-of-lt-of-le, le-of-lt, mul-assoc, mul-one, mul-le-mul-left, mul-div-cancel, mul-mod-left, div-add-mod', add-zero}
 use native.Mathlib.Omega.{arith}
 use mathlib.Core.Path.{_≡_, refl, sym, ap, _∙_, subst, subst⁻¹}
-use mathlib.Core.Logic.{_↔_, _⊎_, inl, inr}
+use mathlib.Core.Logic.{_↔_, ⊎-elim}
 use mathlib.Core.List.{[], _∷_}
-use mathlib.Core.Bool.{Bool, true, false, cond, not, _&&_, true≢false}
-use lib.Dec.{T, leb, ltb, eqb, lit<, lit≤, leb→le, le→leb, eqb→eq, leb·zero}
+use mathlib.Core.Bool.{Bool, true, false, cond, _&&_, true≢false, false≢true}
+use lib.Dec.{T, leb, ltb, eqb, lit<, lit≤, leb·zero}
 use lib.IntN.{pos, negsuc}
 use lib.Pow.{shl-lt}
-use lib.Ieee.{Float, fin, binary64, up, down, mul, lt, eq, le, fits, ofInt}
-use lib.Ieee.Fits.{round-fits, down-pos, and-l, and-r, and-i, eq→eqb}
+use lib.Ieee.{Float, nan, inf, fin, binary64, up, down, mul, lt, eq, le, fits, ofInt}
+use lib.Ieee.Fits.{round-fits, down-pos}
 use lib.Ieee.Exact.{HasValue, round-exact}
 use lib.Ieee.Back.{round-whole}
 use lib.Ieee.Scale.{round-same}
-use lib.Ieee.Bits.{is-true, is-false}
-use borrow.Author.Tests.{le-leb, lt-leb}
+use borrow.Author.Tests.{leb-true, eqb-true, le-leb, lt-leb, eq-eqb}
 use Rattle.yard.specs.declared.Timings.{Timings}
 use Rattle.yard.specs.declared.PriceAnswer.{PriceAnswer}
 use Rattle.yard.specs.Limits.{Limits, limits}
 use Rattle.yard.specs.Answers.{says, test, verdict}
 use Rattle.yard.specs.Price.{seconds, positiveZero, sixteenths, timing, priceWorth, priced, priceAnswer, Prices}
+use Rattle.yard.proofs.Bools.{split, and-left, and-right, and-both}
+use Rattle.yard.proofs.Numbers.{le-or-lt}
 use Rattle.yard.proofs.PriceDoubles.{Compares, value-unique, mul-values, lt-values, eq-values, le-values}
 
 -- ---- The double worth k sixteenths, for a k below 2^53.
@@ -57,37 +57,41 @@ module _ (k : ℕ) (small : k < 2 ^ 53) where
 pub value-worth : (x : Float) (k : ℕ) → HasValue x false k 16 → sixteenths x ≡ k
 value-worth (fin s m e) k v = ap (λ (n : ℕ). n / down e) (v .1) ∙ mul-div-cancel k (down-pos e)
 
-pub value-timing : (x : Float) (k : ℕ) → HasValue x false k 16 → k ≤ 4096 * 16 → T (timing x)
+pub value-timing : (x : Float) (k : ℕ) → HasValue x false k 16 → k ≤ 4096 * 16 → timing x ≡ true
 value-timing (fin true m e) k v h = absurd (true≢false (v .0))
 value-timing (fin false m e) k v h =
-    and-i (eqb (m * up e * 16 % down e) 0) (leb (m * up e * 16 / down e) (4096 * 16))
-    (eq→eqb (ap (λ (n : ℕ). n % down e) (v .1) ∙ mul-mod-left k (down e)))
-    (rw (value-worth (fin false m e) k v) (le→leb k (4096 * 16) h))
+    and-both
+    (eq-eqb (m * up e * 16 % down e) 0 (ap (λ (n : ℕ). n % down e) (v .1) ∙ mul-mod-left k (down e)))
+    (rw (value-worth (fin false m e) k v) (le-leb k (4096 * 16) h))
 
-pub timing-value : (x : Float) → T (timing x) → HasValue x false (sixteenths x) 16
-timing-value (fin true m e) t = absurd t
+pub timing-value : (x : Float) → timing x ≡ true → HasValue x false (sixteenths x) 16
+timing-value nan t = absurd (false≢true t)
+timing-value (inf s) t = absurd (false≢true t)
+timing-value (fin true m e) t = absurd (false≢true t)
 timing-value (fin false m e) t =
     let n = m * up e * 16 in
-    let whole : n % down e ≡ 0 = eqb→eq (n % down e) 0 (and-l (eqb (n % down e) 0) (leb (n / down e) (4096 * 16)) t) in
+    let whole : n % down e ≡ 0 = eqb-true (n % down e) 0 (and-left (eqb (n % down e) 0) (leb (n / down e) (4096 * 16)) t) in
     (refl, sym (div-add-mod' n (down e)) ∙ ap (λ (r : ℕ). n / down e * down e + r) whole ∙ add-zero (n / down e * down e))
 
-pub timing-most : (x : Float) → T (timing x) → sixteenths x ≤ 4096 * 16
-timing-most (fin true m e) t = absurd t
-timing-most (fin false m e) t = leb→le (sixteenths (fin false m e)) (4096 * 16) (and-r (eqb (m * up e * 16 % down e) 0) (leb (m * up e * 16 / down e) (4096 * 16)) t)
+pub timing-most : (x : Float) → timing x ≡ true → sixteenths x ≤ 4096 * 16
+timing-most nan t = absurd (false≢true t)
+timing-most (inf s) t = absurd (false≢true t)
+timing-most (fin true m e) t = absurd (false≢true t)
+timing-most (fin false m e) t = leb-true (sixteenths (fin false m e)) (4096 * 16) (and-right (eqb (m * up e * 16 % down e) 0) (leb (m * up e * 16 / down e) (4096 * 16)) t)
 
 -- a timing has few enough sixteenths for the laws above
 few : {k : ℕ} → k ≤ 4096 * 16 → k < 2 ^ 53
 few h = lt-of-le-of-lt h (lit< tt)
 
-pub timing-seconds : (x : Float) → T (fits binary64 x) → T (timing x) → x ≡ seconds (sixteenths x)
+pub timing-seconds : (x : Float) → T (fits binary64 x) → timing x ≡ true → x ≡ seconds (sixteenths x)
 timing-seconds x f t =
     value-unique binary64 x (seconds (sixteenths x)) false (sixteenths x) 16 (lit< tt) f (seconds-fits (sixteenths x))
     (timing-value x t) (seconds-value (sixteenths x) (few (timing-most x t)))
 
-pub seconds-timing : (k : ℕ) → k ≤ 4096 * 16 → T (timing (seconds k))
+pub seconds-timing : (k : ℕ) → k ≤ 4096 * 16 → timing (seconds k) ≡ true
 seconds-timing k h = value-timing (seconds k) k (seconds-value k (few h)) h
 
-pub timing-exactly : (x : Float) → T (fits binary64 x) → T (timing x) ↔ (k : ℕ) × (k ≤ 4096 * 16) × (x ≡ seconds k)
+pub timing-exactly : (x : Float) → T (fits binary64 x) → timing x ≡ true ↔ (k : ℕ) × (k ≤ 4096 * 16) × (x ≡ seconds k)
 timing-exactly x f = (λ t. (sixteenths x, timing-most x t, timing-seconds x f t), λ w. rw (w .2) (seconds-timing (w .0) (w .1)))
 
 -- ---- Different sixteenths are different doubles.
@@ -104,24 +108,20 @@ within {x} {high} h = rw (leb·zero x) (le-leb x high h)
 beyond : {x high : ℕ} → high < x → leb 0 x && leb x high ≡ false
 beyond {x} {high} h = rw (leb·zero x) (lt-leb x high h)
 
-holds : (b : Bool) → T b ⊎ T (not b)
-holds true = inl tt
-holds false = inr tt
-
 -- the four tests of a call, as facts
 pub record AllHold (L : Limits) (steps passes : ℕ) (t : Timings) : Type 0 where
   pub stepsIn : steps ≤ L .steps
   pub passesIn : passes ≤ L .passes
-  pub pullIn : T (timing (t .pull))
-  pub pushIn : T (timing (t .push))
+  pub pullIn : timing (t .pull) ≡ true
+  pub pushIn : timing (t .push) ≡ true
 
 module _ (L : Limits) (steps passes : ℕ) (t : Timings) where
   -- the answers that may be given, each with all that must hold for it
   pub data Told : PriceAnswer → Type 0 where
     stepsOut : L .steps < steps → Told (priced (says 1 5 0) positiveZero)
     passesOut : steps ≤ L .steps → L .passes < passes → Told (priced (says 1 7 0) positiveZero)
-    pullOut : steps ≤ L .steps → passes ≤ L .passes → T (not (timing (t .pull))) → Told (priced (says 13 1 0) positiveZero)
-    pushOut : steps ≤ L .steps → passes ≤ L .passes → T (timing (t .pull)) → T (not (timing (t .push))) → Told (priced (says 13 2 0) positiveZero)
+    pullOut : steps ≤ L .steps → passes ≤ L .passes → timing (t .pull) ≡ false → Told (priced (says 13 1 0) positiveZero)
+    pushOut : steps ≤ L .steps → passes ≤ L .passes → timing (t .pull) ≡ true → timing (t .push) ≡ false → Told (priced (says 13 2 0) positiveZero)
     done : AllHold L steps passes t → Told (priced (says 0 0 0) (seconds (priceWorth steps passes t)))
 
   -- what is answered once each test is known
@@ -134,29 +134,24 @@ module _ (L : Limits) (steps passes : ℕ) (t : Timings) where
   unfolding priceAnswer
   told-answer (stepsOut h) = λ i. tested (beyond h i) (leb 0 passes && leb passes (L .passes)) (timing (t .pull)) (timing (t .push))
   told-answer (passesOut h k) = λ i. tested (within h i) (beyond k i) (timing (t .pull)) (timing (t .push))
-  told-answer (pullOut h k p) = λ i. tested (within h i) (within k i) (is-false (timing (t .pull)) p i) (timing (t .push))
-  told-answer (pushOut h k p q) = λ i. tested (within h i) (within k i) (is-true (timing (t .pull)) p i) (is-false (timing (t .push)) q i)
-  told-answer (done all) =
-      λ i. tested (within (all .stepsIn) i) (within (all .passesIn) i) (is-true (timing (t .pull)) (all .pullIn) i) (is-true (timing (t .push)) (all .pushIn) i)
+  told-answer (pullOut h k p) = λ i. tested (within h i) (within k i) (p i) (timing (t .push))
+  told-answer (pushOut h k p q) = λ i. tested (within h i) (within k i) (p i) (q i)
+  told-answer (done all) = λ i. tested (within (all .stepsIn) i) (within (all .passesIn) i) (all .pullIn i) (all .pushIn i)
 
   pub answer-told : Told (priceAnswer L steps passes t)
   answer-told =
-      elim (decLe steps (L .steps)) [
-        | no h ↦ given (stepsOut (lt-of-not-le h))
-        | yes h ↦
-            elim (decLe passes (L .passes)) [
-              | no k ↦ given (passesOut h (lt-of-not-le k))
-              | yes k ↦
-                  elim (holds (timing (t .pull))) [
-                    | inr p ↦ given (pullOut h k p)
-                    | inl p ↦
-                        elim (holds (timing (t .push))) [
-                          | inr q ↦ given (pushOut h k p q)
-                          | inl q ↦ given (done (record { stepsIn = h; passesIn = k; pullIn = p; pushIn = q }))
-                        ]
-                  ]
-            ]
-      ]
+      ⊎-elim
+      (λ h.
+      ⊎-elim
+      (λ k.
+      ⊎-elim
+      (λ p. ⊎-elim (λ q. given (done (record { stepsIn = h; passesIn = k; pullIn = p; pushIn = q }))) (λ q. given (pushOut h k p q)) (split (timing (t .push))))
+      (λ p. given (pullOut h k p))
+      (split (timing (t .pull))))
+      (λ k. given (passesOut h k))
+      (le-or-lt passes (L .passes)))
+      (λ h. given (stepsOut h))
+      (le-or-lt steps (L .steps))
     where
       given : {r : PriceAnswer} → Told r → Told (priceAnswer L steps passes t)
       given told = subst⁻¹ Told (told-answer told) told

@@ -1,17 +1,19 @@
 -- Doubles by their value: one value is one double, order is that of the fractions, and an exact product is rounded once.
 use Prim.Native.Nat.{ℕ, _+_, _-_, _*_, _/_, _^_, _<_}
-use native.Mathlib.Nat.{mul-pos, mul-assoc, mul-right-comm, mul-mul-mul-comm, mul-lt-mul-of-pos-right, lt-of-mul-lt-mul-right, eq-of-mul-eq-mul-right, le-of-lt, le-of-eq, lt-of-not-le, le-antisymm}
-use native.Mathlib.Decide.{decLe}
+use native.Mathlib.Nat.{mul-pos, mul-assoc, mul-right-comm, mul-mul-mul-comm, mul-lt-mul-of-pos-right, lt-of-mul-lt-mul-right, eq-of-mul-eq-mul-right, le-of-lt, le-of-eq, le-antisymm}
 use mathlib.Core.Path.{_≡_, refl, sym, ap, _∙_}
+use mathlib.Core.Logic.{⊎-elim}
 use mathlib.Core.Bool.{Bool, true, false, not, _&&_, _||_, cond}
-use lib.Dec.{T, leb, ltb, eqb, ltb→lt, lt→ltb, leb→le, le→leb, eqb→eq}
+use lib.Dec.{T, leb, ltb, eqb}
 use lib.Ieee.{Float, fin, Format, prec, low, hid, top, up, down, size, unlike, below, level, round, mul, lt, eq, le, fits, isNan, toBits, ofBits}
-use lib.Ieee.Fits.{down-pos, eq→eqb}
+use lib.Ieee.Fits.{down-pos}
 use lib.Ieee.Exact.{HasValue}
 use lib.Ieee.Nearest.{div-same}
 use lib.Ieee.Scale.{round-same}
 use lib.Ieee.Bits.{ofBits-toBits}
-use borrow.Author.Tests.{lt-ltb, le-ltb, le-leb}
+use borrow.Author.Tests.{ltb-true, leb-true, eqb-true, lt-ltb, le-ltb, le-leb, eq-eqb}
+use Rattle.yard.proofs.Bools.{same-test}
+use Rattle.yard.proofs.Numbers.{le-or-lt}
 
 -- the bits of n of the smallest values
 abbrev bitsAt : Format → Bool → ℕ → ℕ
@@ -42,28 +44,21 @@ mul-values f (fin s m e) (fin t n g) a c b d C D v w =
     ∙ ap (λ (z : ℕ). a * down e * z) (w .1)
     ∙ mul-mul-mul-comm a (down e) b (down g))
 
--- two tests that pass alike are one Bool
-pub alike : (p q : Bool) → (T p → T q) → (T q → T p) → p ≡ q
-alike true true f g = refl
-alike true false f g = absurd (f tt)
-alike false true f g = absurd (g tt)
-alike false false f g = refl
-
 -- a test of two numbers that a common factor does not change
 abbrev Scales : (ℕ → ℕ → Bool) → Type 0
 Scales test = (x y c : ℕ) → 0 < c → test (x * c) (y * c) ≡ test x y
 
 ltb-scales : Scales ltb
 ltb-scales x y c C =
-    alike (ltb (x * c) (y * c)) (ltb x y)
-    (λ t. lt→ltb x y (lt-of-mul-lt-mul-right c (ltb→lt (x * c) (y * c) t)))
-    (λ t. lt→ltb (x * c) (y * c) (mul-lt-mul-of-pos-right (ltb→lt x y t) C))
+    same-test (ltb (x * c) (y * c)) (ltb x y)
+    (λ e. lt-ltb x y (lt-of-mul-lt-mul-right c (ltb-true (x * c) (y * c) e)))
+    (λ e. lt-ltb (x * c) (y * c) (mul-lt-mul-of-pos-right (ltb-true x y e) C))
 
 eqb-scales : Scales eqb
 eqb-scales x y c C =
-    alike (eqb (x * c) (y * c)) (eqb x y)
-    (λ t. eq→eqb (eq-of-mul-eq-mul-right c C x y (eqb→eq (x * c) (y * c) t)))
-    (λ t. eq→eqb (ap (λ (z : ℕ). z * c) (eqb→eq x y t)))
+    same-test (eqb (x * c) (y * c)) (eqb x y)
+    (λ e. eq-eqb x y (eq-of-mul-eq-mul-right c C x y (eqb-true (x * c) (y * c) e)))
+    (λ e. eq-eqb (x * c) (y * c) (ap (λ (z : ℕ). z * c) (eqb-true x y e)))
 
 -- so x / p and y / q compare as a / c and b / c, which they equal
 crossed : (test : ℕ → ℕ → Bool) → Scales test → (x y p q a b c : ℕ) → 0 < p → 0 < q → 0 < c → x * c ≡ a * p → y * c ≡ b * q → test (x * q) (y * p) ≡ test a b
@@ -95,12 +90,12 @@ eq-values (fin s m e) (fin t n g) a b c C v w =
 
 less-or-same : (a b : ℕ) → ltb a b || eqb a b ≡ leb a b
 less-or-same a b =
-    elim (decLe b a) [
-      | yes h ↦
-          rw (le-ltb a b h)
-          (alike (eqb a b) (leb a b) (λ t. le→leb a b (le-of-eq (eqb→eq a b t))) (λ t. eq→eqb (le-antisymm (leb→le a b t) h)))
-      | no h ↦ rw (lt-ltb a b (lt-of-not-le h), le-leb a b (le-of-lt (lt-of-not-le h)))
-    ]
+    ⊎-elim
+    (λ h.
+    rw (le-ltb a b h)
+    (same-test (eqb a b) (leb a b) (λ e. le-leb a b (le-of-eq (eqb-true a b e))) (λ e. eq-eqb a b (le-antisymm (leb-true a b e) h))))
+    (λ h. rw (lt-ltb a b h, le-leb a b (le-of-lt h)))
+    (le-or-lt b a)
 
 pub le-values : Compares le leb
 unfolding le

@@ -12,22 +12,25 @@ use Rattle.yard.specs.Derived.{stepsNeeded, derivedCodes, derivedPlan}
 use Rattle.yard.specs.Answers.{says, verdict, written, countTest, trainTest, sumTest, inboundTest, listTest, limitTest, roomTest, codeTest, earlyTest, orderTest}
 
 -- 1 for the cars, trains, tracks, room and steps (or step limit) of a call; 2 and 3 for its lists
-abbrev pub countTests : Limits → Night → ℕ → List Answer
-countTests L n steps =
-    countTest 1 1 (L .cars) (length (n .inbound)) ∷
-    countTest 2 1 (L .trains) (length (n .lengths)) ∷
-    countTest 3 1 (L .tracks) (n .tracks) ∷
-    countTest 4 1 (L .room) (n .room) ∷
-    countTest 5 0 (L .steps) steps ∷
+abbrev pub countTests : Limits → ℕ → ℕ → ℕ → ℕ → ℕ → List Answer
+countTests L n m W C h =
+    countTest 1 1 (L .cars) n ∷
+    countTest 2 1 (L .trains) m ∷
+    countTest 3 1 (L .tracks) W ∷
+    countTest 4 1 (L .room) C ∷
+    countTest 5 0 (L .steps) h ∷
     []
 
 abbrev pub nightTests : Night → List Answer
 nightTests n = trainTest (n .lengths) ∷ sumTest (n .lengths) (length (n .inbound)) ∷ inboundTest (n .inbound) ∷ []
 
+abbrev pub nightCounts : Limits → Night → ℕ → List Answer
+nightCounts L n h = countTests L (length (n .inbound)) (length (n .lengths)) (n .tracks) (n .room) h
+
 -- Derive: a night, a step limit, and a lent buffer for the codes, of which only the size counts.
 abbrev pub deriveTests : Limits → Night → ℕ → ℕ → List Answer
 deriveTests L n limit size =
-    countTests L n limit ++
+    nightCounts L n limit ++
     (nightTests n ++
     (listTest 3 (leb (length (n .inbound)) size) ∷
     limitTest (stepsNeeded n) limit ∷
@@ -46,7 +49,7 @@ pub record Derives (n : Night) (limit : ℕ) (before : List ℕ) (r : Answer) (a
 -- Check: a plan.
 abbrev pub checkTests : Limits → Plan → List Answer
 checkTests L p =
-    countTests L (p .night) (p .steps) ++
+    nightCounts L (p .night) (p .steps) ++
     (nightTests (p .night) ++
     (listTest 3 (eqb (length (p .codes)) (length (p .night .inbound))) ∷
     codeTest (p .steps) (p .codes) ∷
@@ -65,7 +68,7 @@ pub record Checks (p : Plan) (r : Answer) : Type 0 where
 -- Replay to a stage: a plan, a stage, and two lent buffers, for each car's track and place.
 abbrev pub replayTests : Limits → Plan → ℕ → ℕ → ℕ → List Answer
 replayTests L p stage trackSize placeSize =
-    countTests L (p .night) (p .steps) ++
+    nightCounts L (p .night) (p .steps) ++
     (countTest 6 0 (p .steps) stage ∷
     (nightTests (p .night) ++
     (listTest 3 (eqb (length (p .codes)) (length (p .night .inbound))) ∷

@@ -11,7 +11,7 @@ use Rattle.yard.specs.Words.{every}
 use Rattle.yard.specs.Limits.{Limits, limits}
 use Rattle.yard.specs.Night.{Night, Plan, sum}
 use Rattle.yard.specs.Answers.{says, test, verdict, written, countTest, listTest, codeTest}
-use Rattle.yard.specs.Calls.{countTests, nightTests}
+use Rattle.yard.specs.Calls.{countTests, nightCounts, nightTests}
 
 -- The format: edition, h, W, C, n and m; m lengths and n inbound numbers; n codes of h bits.
 abbrev pub headWidths : List ℕ
@@ -65,7 +65,7 @@ card p = toBytes (packed (widths (p .steps) (length (p .night .inbound)) (length
 -- The writer: a plan, and a lent buffer for the card.
 abbrev pub writerTests : Limits → Plan → ℕ → List Answer
 writerTests L p size =
-    countTests L (p .night) (p .steps) ++
+    nightCounts L (p .night) (p .steps) ++
     (nightTests (p .night) ++
     (listTest 3 (eqb (length (p .codes)) (length (p .night .inbound))) ∷
     codeTest (p .steps) (p .codes) ∷
@@ -111,11 +111,11 @@ readerTests L bytes lengthsSize inboundSize codesSize =
     test (leb 1 (length bytes)) (says 10 1 0) ∷
     test (eqb (headField bytes 0) 1) (says 11 (headField bytes 0) 0) ∷
     test (leb 5 (length bytes)) (says 10 5 0) ∷
-    (countTests L (cardPlan bytes .night) (cardPlan bytes .steps) ++
+    (countTests L (headField bytes 4) (headField bytes 5) (headField bytes 2) (headField bytes 3) (headField bytes 1) ++
     (test (leb (rightLength bytes) (length bytes)) (says 10 (rightLength bytes) 0) ∷
-    listTest 1 (leb (length (cardPlan bytes .night .lengths)) lengthsSize) ∷
-    listTest 2 (leb (length (cardPlan bytes .night .inbound)) inboundSize) ∷
-    listTest 3 (leb (length (cardPlan bytes .codes)) codesSize) ∷
+    listTest 1 (leb (headField bytes 5) lengthsSize) ∷
+    listTest 2 (leb (headField bytes 4) inboundSize) ∷
+    listTest 3 (leb (headField bytes 4) codesSize) ∷
     (nightTests (cardPlan bytes .night) ++
     (test (endsRight bytes) (says 12 (rightLength bytes) 0) ∷ []))))
 

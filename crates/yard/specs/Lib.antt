@@ -9,5 +9,4 @@ pub mod Answers
 pub mod Calls
 pub mod Card
 pub mod Price
-
--- pub mod Demands
+pub mod Demands

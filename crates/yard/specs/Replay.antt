@@ -20,6 +20,10 @@ bit k code = eqb (code / 2 ^ k % 2) 1
 abbrev pub nextStep : ℕ → ℕ → ℕ → ℕ
 nextStep h code s = first (λ k. bit k code) (h - s) s
 
+-- the yard with a track emptied
+abbrev pub emptied : ℕ → Yard → Yard
+emptied t yard = record { standing = λ track. cond (eqb track t) [] (yard .standing track); rolled = yard .rolled }
+
 -- W tracks, h steps; each car's code and destination track
 module _ (W h : ℕ) (code dest : ℕ → ℕ) where
   -- the track to which a car rolls when the steps from s on are still to come: a car bound for step l goes to track l mod W
@@ -37,10 +41,6 @@ module _ (W h : ℕ) (code dest : ℕ → ℕ) where
   abbrev pub rollIn : ℕ → Yard → List ℕ → Yard
   rollIn s yard [] = yard
   rollIn s yard (car ∷ others) = rollIn s (rollCar s yard car) others
-
-  -- the yard with a track emptied
-  abbrev pub emptied : ℕ → Yard → Yard
-  emptied t yard = record { standing = λ track. cond (eqb track t) [] (yard .standing track); rolled = yard .rolled }
 
   -- step k pulls every car on track k mod W; they roll in again in the order in which they stood
   abbrev pub step : ℕ → Yard → Yard

@@ -1,8 +1,7 @@
 -- `price::price` meets its contract: each way out is one of the reasons for which the yard is told its answer.
 use Prim.Native.Nat.{ℕ, _+_, _*_, _<_, _^_}
-use mathlib.Core.Path.{_≡_, sym, ap, _∙_, subst⁻¹}
-use mathlib.Core.Bool.{Bool, true, false, cond, not}
-use lib.Dec.{T}
+use mathlib.Core.Path.{_≡_, refl, sym, ap, _∙_, subst⁻¹}
+use mathlib.Core.Bool.{Bool, true, false, cond}
 use native.Mathlib.Omega.{arith}
 use borrow.Author.Needs.{needs}
 use Rattle.price.specs.declared.Timing.the-variants.{Sixteenths, NotAllowed}
@@ -14,13 +13,13 @@ use Rattle.price.proofs.price.Statement.{statement}
 use Rattle.price.proofs.price.Tie as tie
 
 -- what a timing's variant says of its test
-allowed : (b : Bool) (k n : ℕ) → Sixteenths k ≡ cond b (Sixteenths n) NotAllowed → T b × (k ≡ n)
-allowed true k n e = (tt, cc)
+allowed : (b : Bool) (k n : ℕ) → Sixteenths k ≡ cond b (Sixteenths n) NotAllowed → (b ≡ true) × (k ≡ n)
+allowed true k n e = (refl, cc)
 allowed false k n e = absurd (let z : _≡_ {A = ℕ} 0 1 = cc in omega arith)
 
-refusedTiming : (b : Bool) (n : ℕ) → NotAllowed ≡ cond b (Sixteenths n) NotAllowed → T (not b)
+refusedTiming : (b : Bool) (n : ℕ) → NotAllowed ≡ cond b (Sixteenths n) NotAllowed → b ≡ false
 refusedTiming true n e = absurd (let z : _≡_ {A = ℕ} 0 1 = cc in omega arith)
-refusedTiming false n e = tt
+refusedTiming false n e = refl
 
 refused-requires : tie.Need-refused-requires
 refused-requires c κs = search needs
@@ -73,7 +72,7 @@ refused-requires-4 c κs = search needs
 abbrev start : tie.After-pull-worth → tie.Start
 start c = c .before .before .before .before .before
 
-pullAllowed : (c : tie.After-pull-worth) → T (timing (start c .args .timings .pull)) × (c .pull-worth .given .0 .0 ≡ sixteenths (start c .args .timings .pull))
+pullAllowed : (c : tie.After-pull-worth) → (timing (start c .args .timings .pull) ≡ true) × (c .pull-worth .given .0 .0 ≡ sixteenths (start c .args .timings .pull))
 pullAllowed c =
     allowed (timing (start c .args .timings .pull)) (c .pull-worth .given .0 .0) (sixteenths (start c .args .timings .pull)) (sym (c .pull-worth .given .1) ∙ c .before .before .timing-of .ensures)
 
@@ -89,7 +88,7 @@ returns-4 c =
 abbrev bound : tie.After-push-worth → tie.After-pull-worth
 bound c = c .before .before .before .before
 
-pushAllowed : (c : tie.After-push-worth) → T (timing (start (bound c) .args .timings .push)) × (c .push-worth .given .0 .0 ≡ sixteenths (start (bound c) .args .timings .push))
+pushAllowed : (c : tie.After-push-worth) → (timing (start (bound c) .args .timings .push) ≡ true) × (c .push-worth .given .0 .0 ≡ sixteenths (start (bound c) .args .timings .push))
 pushAllowed c =
     let push = start (bound c) .args .timings .push in
     allowed (timing push) (c .push-worth .given .0 .0) (sixteenths push) (sym (c .push-worth .given .1) ∙ c .before .before .timing-of2 .ensures)

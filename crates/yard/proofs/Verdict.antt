@@ -1,0 +1,73 @@
+-- Laws of a verdict: the first refusal of a call's tests is its answer, and where every test passes the answer is what the call says.
+use Prim.Native.Nat.{ℕ}
+use mathlib.Core.Path.{_≡_, refl, ap, _∙_}
+use mathlib.Core.Logic.{_↔_}
+use mathlib.Core.Bool.{Bool, true, false, cond}
+use mathlib.Core.List.{List, [], _∷_, _++_}
+use lib.Dec.{eqb}
+use lib.ListN.{length, drop}
+use borrow.Author.Tests.{eqb-true, eqb-false, eq-eqb, ne-eqb}
+use Rattle.yard.specs.declared.Answer.{Answer}
+use Rattle.yard.specs.Answers.{test, verdict, written}
+
+-- every test of a list is passed
+abbrev pub Passed : List Answer → Type 0
+Passed [] = Unit {0}
+Passed (t ∷ ts) = (t .number ≡ 0) × Passed ts
+
+pub passed-append : (ts us : List Answer) → Passed (ts ++ us) ↔ (Passed ts × Passed us)
+passed-append [] us = (λ p. (tt, p), λ p. p .1)
+passed-append (t ∷ ts) us = (
+  λ p. ((p .0, passed-append ts us .0 (p .1) .0), passed-append ts us .0 (p .1) .1),
+  λ p. (p .0 .0, passed-append ts us .1 (p .0 .1, p .1)),
+)
+
+-- a test is passed exactly if what it asks for holds
+pub test-passed : (b : Bool) (refusal : Answer) → (refusal .number ≡ 0 → ⊥) → (test b refusal .number ≡ 0) ↔ (b ≡ true)
+test-passed true refusal h = (λ _. refl, λ _. refl)
+test-passed false refusal h = (λ e. absurd (h e), λ e. ap (λ b. test b refusal .number) e)
+
+-- one test more in front: passed, it leaves the verdict to the others; refused, it is the verdict
+pub verdict-after : (t : Answer) (ts : List Answer) (done : Answer) → t .number ≡ 0 → verdict (t ∷ ts) done ≡ verdict ts done
+verdict-after t ts done e = ap (λ b. cond b (verdict ts done) t) (eq-eqb (t .number) 0 e)
+
+pub verdict-refused : (t : Answer) (ts : List Answer) (done : Answer) → (t .number ≡ 0 → ⊥) → verdict (t ∷ ts) done ≡ t
+verdict-refused t ts done h = ap (λ b. cond b (verdict ts done) t) (ne-eqb (t .number) 0 h)
+
+pub verdict-append : (ts us : List Answer) (done : Answer) → verdict (ts ++ us) done ≡ verdict ts (verdict us done)
+verdict-append [] us done = refl
+verdict-append (t ∷ ts) us done = ap (λ v. cond (eqb (t .number) 0) v t) (verdict-append ts us done)
+
+pub verdict-passed : (ts : List Answer) (done : Answer) → Passed ts → verdict ts done ≡ done
+verdict-passed [] done p = refl
+verdict-passed (t ∷ ts) done p = verdict-after t ts done (p .0) ∙ verdict-passed ts done (p .1)
+
+-- the verdict is the first refusal
+pub verdict-first : (ts : List Answer) (t : Answer) (us : List Answer) (done : Answer) → Passed ts → (t .number ≡ 0 → ⊥) → verdict (ts ++ t ∷ us) done ≡ t
+verdict-first ts t us done p h =
+    verdict-append ts (t ∷ us) done ∙ verdict-passed ts (verdict (t ∷ us) done) p ∙ verdict-refused t us done h
+
+-- the verdict is 0 exactly if every test is passed and the call's own answer is 0
+cond-passes : (t later : Answer) (b : Bool) → eqb (t .number) 0 ≡ b → cond b later t .number ≡ 0 → (t .number ≡ 0) × (later .number ≡ 0)
+cond-passes t later true e h = (eqb-true (t .number) 0 e, h)
+cond-passes t later false e h = absurd (eqb-false (t .number) 0 e h)
+
+pub verdict-passes : (ts : List Answer) (done : Answer) → (verdict ts done .number ≡ 0) ↔ (Passed ts × (done .number ≡ 0))
+verdict-passes [] done = (λ e. (tt, e), λ p. p .1)
+verdict-passes (t ∷ ts) done = (
+  λ e.
+      let front = cond-passes t (verdict ts done) (eqb (t .number) 0) refl e in
+      let rest = verdict-passes ts done .0 (front .1) in
+      ((front .0, rest .0), rest .1),
+  λ p. ap (λ v. v .number) (verdict-passed (t ∷ ts) done (p .0)) ∙ p .1,
+)
+
+pub verdict-done : (ts : List Answer) (done : Answer) → verdict ts done .number ≡ 0 → verdict ts done ≡ done
+verdict-done ts done e = verdict-passed ts done (verdict-passes ts done .0 e .0)
+
+-- a lent buffer after an accepted call, and after a refused one
+pub written-accepted : (r : Answer) (items buffer : List ℕ) → r .number ≡ 0 → written r items buffer ≡ items ++ drop (length items) buffer
+written-accepted r items buffer e = ap (λ b. cond b (items ++ drop (length items) buffer) buffer) (eq-eqb (r .number) 0 e)
+
+pub written-refused : (r : Answer) (items buffer : List ℕ) → (r .number ≡ 0 → ⊥) → written r items buffer ≡ buffer
+written-refused r items buffer h = ap (λ b. cond b (items ++ drop (length items) buffer) buffer) (ne-eqb (r .number) 0 h)
