@@ -17,5 +17,8 @@ pub mod Bits
 pub mod Tests
 pub mod Card
 pub mod CardCalls
+pub mod Formed
+pub mod Plans
+pub mod Building
 pub mod PriceDoubles
 pub mod Price

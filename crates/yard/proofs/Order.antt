@@ -114,7 +114,7 @@ before-turned a b l n h =
 
 -- ---- a list that holds n numbers from a on once each, and meets each before the next, is those numbers in order
 
-pub Holds : List ℕ → ℕ → ℕ → Type 0
+abbrev pub Holds : List ℕ → ℕ → ℕ → Type 0
 Holds l a n = (x : ℕ) → count x l ≡ count x (upFrom a n)
 
 pub upFrom-before : (a n j : ℕ) → a ≤ j → suc j < a + n → before j (suc j) (upFrom a n) ≡ true
@@ -131,7 +131,6 @@ upFrom-before a (suc n) j l h = ⊎-elim (λ e. here e) (λ m. later m (upFrom-b
     later m r = before-skip j (suc j) a (upFrom (suc a) n) (λ e. omega arith) (λ e. omega arith) ∙ r
 
 pub in-order : (l : List ℕ) (a n : ℕ) → Holds l a n → ((j : ℕ) → a ≤ j → suc j < a + n → before j (suc j) l ≡ true) → l ≡ upFrom a n
-unfolding Holds
 in-order [] a zero c o = refl
 in-order [] a (suc n) c o = absurd (omega (arith, c a, count-upFrom-in a a (suc n) (omega arith) (omega arith)))
 in-order (x ∷ l) a zero c o = absurd (omega (arith, c x, count-head x l))
