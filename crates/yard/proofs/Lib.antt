@@ -22,3 +22,5 @@ pub mod Plans
 pub mod Building
 pub mod Least
 pub mod DerivedPlan
+pub mod PriceDoubles
+pub mod Price

@@ -8,4 +8,5 @@ pub mod Derived
 pub mod Answers
 pub mod Calls
 pub mod Card
+pub mod Price
 pub mod Demands
