@@ -22,5 +22,7 @@ pub mod Plans
 pub mod Building
 pub mod Least
 pub mod DerivedPlan
+pub mod Reasons
+pub mod Demands
 pub mod PriceDoubles
 pub mod Price

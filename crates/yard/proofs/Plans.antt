@@ -14,7 +14,7 @@ use Rattle.yard.specs.Night.{Night, Plan, cars, trainOf}
 use Rattle.yard.specs.Replay.{bit, codeOf, destination, yardAt, pulled, pullSize, early, lowestEarly, firstEarly, firstOverfull}
 use Rattle.yard.specs.Codes.{lone, usable}
 use Rattle.yard.specs.Answers.{says, test, earlyTest, roomTest}
-use Rattle.yard.specs.Demands.{Within, Listed, NeverEarly, HasRoom}
+use Rattle.yard.specs.Demands.{Within, EachOnce, NeverEarly, HasRoom}
 use Rattle.yard.proofs.Bools.{split, clash, same-test, and-left, and-right, and-both, not-true, not-so}
 use Rattle.yard.proofs.First.{first-le, first-none, first-fails, first-hit}
 use Rattle.yard.proofs.Lists.{count-upFrom-in, upFrom-bounds}
@@ -46,12 +46,12 @@ destination-away n car = omega (arith, trainOf-pos (n .lengths) car)
 pub record InRange (inbound : List ℕ) : Type 0 where
   pub range : (car : ℕ) → 0 < count car inbound → Within 1 (length inbound) car
 
-pub range-once : (lengths inbound : List ℕ) → Listed lengths inbound → InRange inbound
-range-once lengths inbound f =
+pub range-once : (inbound : List ℕ) → EachOnce inbound → InRange inbound
+range-once inbound once =
     record {
       range =
           λ car m.
-          let b = upFrom-bounds car 1 (length inbound) (subst (λ (k : ℕ). 0 < k) (f .once car) m) in
+          let b = upFrom-bounds car 1 (length inbound) (subst (λ (k : ℕ). 0 < k) (once car) m) in
           (b .0, omega (arith, b .1));
     }
 

@@ -75,50 +75,50 @@ abbrev pub FirstFails : ℕ → List Reason → Type 0
 FirstFails k [] = ⊥
 FirstFails k (r ∷ reasons) = ((r .asked → ⊥) × (r .number ≡ k)) ⊎ (r .asked × FirstFails k reasons)
 
-abbrev pub asks : ℕ → Type 0 → Reason
-asks number asked = record { number = number; asked = asked }
+abbrev pub must : ℕ → Type 0 → Reason
+must number asked = record { number = number; asked = asked }
 
 abbrev pub countReasons : Limits → Night → ℕ → List Reason
 countReasons L n h =
-    asks 1 (Within 1 (L .cars) (length (n .inbound))) ∷
-    asks 1 (Within 1 (L .trains) (length (n .lengths))) ∷
-    asks 1 (Within 1 (L .tracks) (n .tracks)) ∷
-    asks 1 (Within 1 (L .room) (n .room)) ∷
-    asks 1 (Within 0 (L .steps) h) ∷
+    must 1 (Within 1 (L .cars) (length (n .inbound))) ∷
+    must 1 (Within 1 (L .trains) (length (n .lengths))) ∷
+    must 1 (Within 1 (L .tracks) (n .tracks)) ∷
+    must 1 (Within 1 (L .room) (n .room)) ∷
+    must 1 (Within 0 (L .steps) h) ∷
     []
 
 abbrev pub nightReasons : Night → List Reason
-nightReasons n = asks 2 (NoneEmpty (n .lengths)) ∷ asks 2 (sum (n .lengths) ≡ length (n .inbound)) ∷ asks 3 (EachOnce (n .inbound)) ∷ []
+nightReasons n = must 2 (NoneEmpty (n .lengths)) ∷ must 2 (sum (n .lengths) ≡ length (n .inbound)) ∷ must 3 (EachOnce (n .inbound)) ∷ []
 
 abbrev pub deriveReasons : Limits → Night → ℕ → ℕ → List Reason
 deriveReasons L n limit size =
     countReasons L n limit ++
     (nightReasons n ++
-    (asks 4 (length (n .inbound) ≤ size) ∷
-    asks 5 (Sortable n limit) ∷
-    asks 6 (HasRoom (derivedPlan n)) ∷
+    (must 4 (length (n .inbound) ≤ size) ∷
+    must 5 (Sortable n limit) ∷
+    must 6 (HasRoom (derivedPlan n)) ∷
     []))
 
 abbrev pub checkReasons : Limits → Plan → List Reason
 checkReasons L p =
     countReasons L (p .night) (p .steps) ++
     (nightReasons (p .night) ++
-    (asks 4 (length (p .codes) ≡ length (p .night .inbound)) ∷
-    asks 7 (CodesBelow (p .steps) (p .codes)) ∷
-    asks 8 (NeverEarly p) ∷
-    asks 6 (HasRoom p) ∷
-    asks 9 (BuildsTrains p) ∷
+    (must 4 (length (p .codes) ≡ length (p .night .inbound)) ∷
+    must 7 (CodesBelow (p .steps) (p .codes)) ∷
+    must 8 (NeverEarly p) ∷
+    must 6 (HasRoom p) ∷
+    must 9 (BuildsTrains p) ∷
     []))
 
 abbrev pub replayReasons : Limits → Plan → ℕ → ℕ → ℕ → List Reason
 replayReasons L p stage trackSize placeSize =
     countReasons L (p .night) (p .steps) ++
-    (asks 1 (Within 0 (p .steps) stage) ∷
+    (must 1 (Within 0 (p .steps) stage) ∷
     (nightReasons (p .night) ++
-    (asks 4 (length (p .codes) ≡ length (p .night .inbound)) ∷
-    asks 4 (length (p .night .inbound) ≤ trackSize) ∷
-    asks 4 (length (p .night .inbound) ≤ placeSize) ∷
-    asks 7 (CodesBelow (p .steps) (p .codes)) ∷
-    asks 8 (NeverEarly p) ∷
-    asks 6 (HasRoom p) ∷
+    (must 4 (length (p .codes) ≡ length (p .night .inbound)) ∷
+    must 4 (length (p .night .inbound) ≤ trackSize) ∷
+    must 4 (length (p .night .inbound) ≤ placeSize) ∷
+    must 7 (CodesBelow (p .steps) (p .codes)) ∷
+    must 8 (NeverEarly p) ∷
+    must 6 (HasRoom p) ∷
     [])))
