@@ -24,5 +24,7 @@ pub mod Least
 pub mod DerivedPlan
 pub mod Reasons
 pub mod Demands
+pub mod PlanYard
+pub mod Trials
 pub mod PriceDoubles
 pub mod Price

@@ -10,3 +10,4 @@ pub mod Calls
 pub mod Card
 pub mod Price
 pub mod Demands
+pub mod Trials

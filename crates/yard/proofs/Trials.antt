@@ -1,0 +1,12 @@
+-- The thirteen trial nights marked P, together as one fact about the written meaning, computed by the checker.
+use mathlib.Core.Path.{_≡_, refl}
+use mathlib.Core.Bool.{true}
+use Rattle.yard.specs.Replay.{yardAt, passes, pulled, pullSize, fullestPull, early, lowestEarly, firstEarly, firstOverfull, built, inOrder}
+use Rattle.yard.specs.Codes.{usable, usableCodes, codeNumber, fewestSteps}
+use Rattle.yard.specs.Derived.{stepsNeeded, derivedCodes, derivedPlan}
+use Rattle.yard.specs.Calls.{deriveAnswer, checkAnswer}
+use Rattle.yard.specs.Trials.{trials, agree}
+
+pub trials-agree : agree trials ≡ true
+unfolding trials deriveAnswer checkAnswer stepsNeeded derivedCodes derivedPlan usable usableCodes codeNumber fewestSteps yardAt passes pulled pullSize fullestPull early lowestEarly firstEarly firstOverfull built inOrder
+trials-agree = refl
