@@ -1,0 +1,4 @@
+-- The laws on which the proofs of this crate rest, and those that its callers need.
+pub mod Tests
+pub mod Places
+pub mod Marks
