@@ -1,23 +1,23 @@
 -- Laws of the marks: at first no car is marked, and marking a car as it comes keeps the marks at the cars listed so far.
 use mathlib.Core.Path.{_≡_, refl, sym, ap, _∙_}
-use mathlib.Core.Logic.{_⊎_, inl, inr, ⊎-elim}
+use mathlib.Core.Logic.{_⊎_, inl, inr}
 use mathlib.Core.Bool.{Bool, true, false, not, _&&_, _||_}
-use mathlib.Core.List.{List, [], _∷_, _++_}
-use Prim.Native.Nat.{ℕ, zero, suc, _+_, _-_, _≤_, _<_}
-use native.Mathlib.Nat.{zero-add, add-zero, add-assoc}
+use mathlib.Core.List.{List, [], _∷_}
+use Prim.Native.Nat.{ℕ, suc, _+_, _-_, _≤_, _<_}
+use native.Mathlib.Nat.{add-zero}
 use native.Mathlib.Numerals.{add-one, sub-one}
 use native.Mathlib.Omega.{arith}
 use lib.Dec.{leb, ltb, eqb}
 use lib.ListN.{length, getD, take, set, replicate, length-set, length-replicate, getD-replicate, List·getD-eq-default}
 use lib.Seq.{take-suc, getD-set-same, getD-set-other}
 use borrow.Author.Tests.{lt-ltb, eqb-true, eqb-false}
-use Rattle.yard.specs.Words.{tally, total, count, listed}
+use Rattle.yard.specs.Words.{tally, count, listed}
 use Rattle.yard.specs.Answers.{badPlace}
 use Rattle.yard.proofs.Bools.{split}
 use Rattle.yard.proofs.Numbers.{le-or-lt}
+use Rattle.yard.proofs.Lists.{count-append}
 use Rattle.intake.specs.Marks.{marked, markable, Marks, unfit}
 use Rattle.intake.proofs.Tests.{between}
-use Rattle.intake.proofs.Places.{item-at}
 
 -- marks as they are at first
 abbrev pub fresh : ℕ → List ℕ
@@ -45,10 +45,6 @@ marks-set marks car l h = record { room = length-set marks (car - 1) 1; now = λ
         rw (t, e, getD-set-same marks (car - 1) 1 0 (omega arith))
     at x k (inr f) = rw (f, getD-set-other marks (car - 1) (x - 1) 1 0 (λ q. eqb-false x car f (omega arith)))
 
-total-append : (f : ℕ → ℕ) (l m : List ℕ) → total f (l ++ m) ≡ total f l + total f m
-total-append f [] m = sym (zero-add (total f m))
-total-append f (x ∷ l) m = rw (total-append f l m) (sym (add-assoc (f x) (total f l) (total f m)))
-
 one-more : (b : Bool) (n : ℕ) → ltb 0 (n + (tally b + 0)) ≡ (b || ltb 0 n)
 one-more true n = lt-ltb 0 (n + (1 + 0)) (omega arith)
 one-more false n = rw add-zero
@@ -57,7 +53,7 @@ one-more false n = rw add-zero
 pub listed-next : (x : ℕ) (l : List ℕ) (i : ℕ) → i < length l → listed x (take (suc i) l) ≡ (eqb x (getD l i 0) || listed x (take i l))
 listed-next x l i h =
     ap (listed x) (take-suc l i 0 h)
-    ∙ ap (ltb 0) (total-append (λ y. tally (eqb x y)) (take i l) (getD l i 0 ∷ []))
+    ∙ ap (ltb 0) (count-append x (take i l) (getD l i 0 ∷ []))
     ∙ one-more (eqb x (getD l i 0)) (count x (take i l))
 
 pub fit-between : (marks : List ℕ) (car n : ℕ) → unfit marks car n ≡ false → (1 ≤ car) × (car ≤ n)
