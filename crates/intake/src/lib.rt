@@ -77,9 +77,9 @@ pub fn counts(cars: usize, trains: usize, tracks: usize, room: usize, steps: usi
 pub fn trains(lengths: &[u16]) -> Answer
     ensures { λ r. ⌜ r ≡ trainTest (now (lengths .entry)) ⌝ }
 {
-    for i in 0..lengths.len() {
-        if lengths[i] == 0 {
-            return answer(2, i + 1, 0);
+    for t in 0..lengths.len() {
+        if lengths[t] == 0 {
+            return answer(2, t + 1, 0);
         }
     }
     answer(0, 0, 0)

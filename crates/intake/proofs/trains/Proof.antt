@@ -12,10 +12,10 @@ use Rattle.intake.proofs.trains.Statement.{statement}
 use Rattle.intake.proofs.trains.Tie as tie
 
 abbrev Inv-loop : tie.InvT-loop
-Inv-loop lengths i₀ i-end i = (i ≤ length lengths) × Good (λ t. eqb (itemOf lengths t) 0) i
+Inv-loop lengths t₀ t-end t = (t ≤ length lengths) × Good (λ train. eqb (itemOf lengths train) 0) t
 
 abbrev μ-loop : tie.MeasureT-loop
-μ-loop lengths i₀ i-end i = length lengths - i
+μ-loop lengths t₀ t-end t = length lengths - t
 
 loop-holds : tie.Need-loop-holds Inv-loop μ-loop
 loop-holds c = (zero-le, below-none _)
@@ -38,8 +38,8 @@ returns c =
     c .answer .ensures
     ∙ found-bad _ 2 _ _ (at-test .before .loop .inv .1) (at-test .loop-test .taken) (rw item-at (eq-eqb _ _ (c .before .if1 .taken)))
 
-add-i : tie.Need-add-i Inv-loop μ-loop
-add-i c = omega arith
+add-t : tie.Need-add-t Inv-loop μ-loop
+add-t c = omega arith
 
 loop-less : tie.Need-loop-less Inv-loop μ-loop
 loop-less c = omega arith
@@ -66,7 +66,7 @@ trains-spec =
     add-answer
     answer-requires
     returns
-    add-i
+    add-t
     loop-less
     loop-again
     answer-requires-2
