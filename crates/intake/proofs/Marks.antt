@@ -5,7 +5,7 @@ use mathlib.Core.Bool.{Bool, true, false, not, _&&_, _||_}
 use mathlib.Core.List.{List, [], _∷_}
 use Prim.Native.Nat.{ℕ, suc, _+_, _-_, _≤_, _<_}
 use native.Mathlib.Nat.{add-zero}
-use native.Mathlib.Numerals.{add-one, sub-one}
+use native.Mathlib.Numerals.{add-one}
 use native.Mathlib.Omega.{arith}
 use lib.Dec.{leb, ltb, eqb}
 use lib.ListN.{length, getD, take, set, replicate, length-set, length-replicate, getD-replicate, List·getD-eq-default}
@@ -16,6 +16,7 @@ use Rattle.yard.specs.Answers.{badPlace}
 use Rattle.yard.proofs.Bools.{split}
 use Rattle.yard.proofs.Numbers.{le-or-lt}
 use Rattle.yard.proofs.Lists.{count-append}
+use Rattle.yard.proofs.Formed.{bad-at}
 use Rattle.intake.specs.Marks.{marked, markable, Marks, unfit}
 use Rattle.intake.proofs.Tests.{between}
 
@@ -39,7 +40,8 @@ pub marks-set : (marks : List ℕ) (car : ℕ) → 1 ≤ car → car ≤ markabl
 unfolding marked markable
 marks-set marks car l h = record { room = length-set marks (car - 1) 1; now = λ x k. at x k (split (eqb x car)) }
   where
-    at : (x : ℕ) → 1 ≤ x → (eqb x car ≡ true) ⊎ (eqb x car ≡ false) → eqb (getD (set marks (car - 1) 1) (x - 1) 0) 1 ≡ (eqb x car || eqb (getD marks (x - 1) 0) 1)
+    at : (x : ℕ) → 1 ≤ x → (eqb x car ≡ true) ⊎ (eqb x car ≡ false)
+        → eqb (getD (set marks (car - 1) 1) (x - 1) 0) 1 ≡ (eqb x car || eqb (getD marks (x - 1) 0) 1)
     at x k (inl t) =
         let e : x - 1 ≡ car - 1 = ap (λ (n : ℕ). n - 1) (eqb-true x car t) in
         rw (t, e, getD-set-same marks (car - 1) 1 0 (omega arith))
@@ -77,7 +79,7 @@ module _ (inbound : List ℕ) where
 
     -- what makes a place bad can be read off the marks
     pub bad-here : badPlace inbound (suc i) ≡ unfit marks (getD inbound i 0) (length inbound)
-    bad-here = rw (sub-one (suc i)) (go (split (leb 1 car && leb car n)))
+    bad-here = bad-at inbound i ∙ go (split (leb 1 car && leb car n))
       where
         car : ℕ
         car = getD inbound i 0

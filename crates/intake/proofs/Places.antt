@@ -1,25 +1,15 @@
 -- Laws of a test over the places 1 to n of a list, which refuses the first place that is bad.
-use mathlib.Core.Path.{_≡_, refl, ap}
-use mathlib.Core.Logic.{_⊎_, inl, inr}
+use mathlib.Core.Path.{_≡_, refl}
 use mathlib.Core.Bool.{Bool, true, false}
 use Prim.Native.Nat.{ℕ, zero, suc, _+_, _-_, _≤_, _<_}
 use native.Mathlib.Omega.{arith}
-use native.Mathlib.Numerals.{add-one, sub-one}
-use mathlib.Core.List.{List}
-use lib.ListN.{getD}
-use lib.Dec.{ltb, eqb}
-use borrow.Author.Tests.{lt-ltb, le-ltb, ltb-true, eqb-false}
+use native.Mathlib.Numerals.{add-one}
+use lib.Dec.{ltb}
+use borrow.Author.Tests.{lt-ltb, le-ltb}
 use Rattle.yard.specs.declared.Answer.{Answer}
 use Rattle.yard.specs.Words.{first}
-use Rattle.yard.specs.Night.{itemOf}
 use Rattle.yard.specs.Answers.{says, test}
-use Rattle.yard.specs.Demands.{Within}
-use Rattle.yard.proofs.Bools.{split}
-use Rattle.yard.proofs.First.{first-none, first-found, first-fails}
-
--- the item at place i + 1 stands at index i
-pub item-at : (l : List ℕ) (i : ℕ) → itemOf l (suc i) ≡ getD l i 0
-item-at l i = ap (λ (k : ℕ). getD l k 0) (sub-one (suc i))
+use Rattle.yard.proofs.First.{first-found, first-fails}
 
 module _ (bad : ℕ → Bool) where
   -- the test of trains, inbound list and codes, with the number of its refusal
@@ -43,11 +33,3 @@ module _ (bad : ℕ → Bool) where
   all-good number n i good l =
       let e : first bad n 1 ≡ 1 + n = first-fails bad n 1 (λ j m h. from-one i j good m (omega arith)) in
       rw (e, lt-ltb n (1 + n) (omega arith)) refl
-
-  -- where the test is passed, every place is good
-  pub places-passed : (number n : ℕ) → eqb number 0 ≡ false → placeTest number n .number ≡ 0 → (j : ℕ) → Within 1 n j → bad j ≡ false
-  places-passed number n e done j w = go (split (ltb n (first bad n 1)))
-    where
-      go : (ltb n (first bad n 1) ≡ true) ⊎ (ltb n (first bad n 1) ≡ false) → bad j ≡ false
-      go (inl t) = first-none bad n 1 j (w .0) (omega (arith, ltb-true n (first bad n 1) t))
-      go (inr f) = absurd (eqb-false number 0 e (rw f at done))

@@ -7,7 +7,8 @@ use lib.ListN.{length}
 use borrow.Author.Count.{below-none, below-more}
 use borrow.Author.Tests.{le-leb, lt-leb}
 use Rattle.yard.specs.Night.{itemOf}
-use Rattle.intake.proofs.Places.{Good, item-at, found-bad, all-good}
+use Rattle.yard.proofs.Tests.{item-at}
+use Rattle.intake.proofs.Places.{Good, found-bad, all-good}
 use Rattle.intake.proofs.codes.Statement.{statement}
 use Rattle.intake.proofs.codes.Tie as tie
 
@@ -41,8 +42,8 @@ answer-requires c κs = tt
 returns : tie.Need-returns Inv-loop μ-loop
 returns c =
     let at-test = c .before .before .before in
-    c .answer .ensures
-    ∙ found-bad _ 7 _ _ (at-test .before .loop .inv .1) (at-test .loop-test .taken) (rw item-at (le-leb _ _ (rw (at-test .before .before .power .ensures) at (c .before .if1 .taken))))
+    let wide = rw (at-test .before .before .power .ensures) at (c .before .if1 .taken) in
+    c .answer .ensures ∙ found-bad _ 7 _ _ (at-test .before .loop .inv .1) (at-test .loop-test .taken) (rw item-at (le-leb _ _ wide))
 
 add-i : tie.Need-add-i Inv-loop μ-loop
 add-i c = omega arith

@@ -1,4 +1,4 @@
--- The proof of `lists`: each answer is that of the test before those that come later.
+-- The proof of `lists`: each answer is that of the test before those that come later. `trains` and `unless` ask nothing.
 use mathlib.Core.Path.{refl}
 use lib.Dec.{ltb}
 use lib.ListN.{length}
@@ -15,15 +15,6 @@ sum-requires c κs = search needs
 inbound-requires : tie.Need-inbound-requires
 inbound-requires c κs = search needs
 
-unless-requires : tie.Need-unless-requires
-unless-requires c κs = search needs
-
-trains-requires : tie.Need-trains-requires
-trains-requires c κs = search needs
-
-unless-requires-2 : tie.Need-unless-requires-2
-unless-requires-2 c κs = search needs
-
 returns : tie.Need-returns
 returns c =
     let inbound = now (c .before .before .before .before .before .before .before .args .inbound) in
@@ -35,7 +26,7 @@ lists-spec =
     (tie.spec
     sum-requires
     inbound-requires
-    unless-requires
-    trains-requires
-    unless-requires-2
+    (λ c κs. tt)
+    (λ c κs. tt)
+    (λ c κs. tt)
     returns)

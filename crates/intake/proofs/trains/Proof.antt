@@ -7,7 +7,8 @@ use lib.ListN.{length}
 use borrow.Author.Count.{below-none, below-more}
 use borrow.Author.Tests.{eq-eqb, ne-eqb}
 use Rattle.yard.specs.Night.{itemOf}
-use Rattle.intake.proofs.Places.{Good, item-at, found-bad, all-good}
+use Rattle.yard.proofs.Tests.{item-at}
+use Rattle.intake.proofs.Places.{Good, found-bad, all-good}
 use Rattle.intake.proofs.trains.Statement.{statement}
 use Rattle.intake.proofs.trains.Tie as tie
 
