@@ -1,0 +1,5 @@
+-- The laws on which the proofs of this crate rest, and in `Passed` those that its callers need.
+pub mod Tests
+pub mod Places
+pub mod Marks
+pub mod Passed

@@ -1,0 +1,188 @@
+// The tests of what comes from outside: counts, lengths, the inbound list, codes and buffers, each answered as document 01 says.
+use yard::Answer;
+ghost use mathlib.Core.Path.{_≡_};
+ghost use mathlib.Core.Bool.{_&&_};
+ghost use mathlib.Core.List.{_∷_, []};
+ghost use Prim.Native.Nat.{_^_, _≤_};
+ghost use lib.Dec.{leb};
+ghost use lib.ListN.{length};
+ghost use Rattle.yard.specs.Limits.{limits};
+ghost use Rattle.yard.specs.Night.{sum};
+ghost use Rattle.yard.specs.Answers.{says, test, verdict, countTest, trainTest, sumTest, inboundTest, listTest, codeTest};
+ghost use Rattle.yard.specs.Calls.{countTests};
+ghost use Rattle.intake.specs.Tests.{listTests};
+ghost use Rattle.intake.specs.Marks.{marked, markable, unfit, Marks};
+
+// The limits of document 01.
+const CARS: usize = 512;
+
+const TRAINS: usize = 64;
+
+const TRACKS: usize = 8;
+
+const ROOM: usize = 512;
+
+const STEPS: usize = 8;
+
+// A number and its two details.
+pub fn answer(number: usize, a: usize, b: usize) -> Answer
+    ensures { λ r. ⌜ r ≡ says number a b ⌝ }
+{
+    Answer { number, a, b }
+}
+
+// The first of two answers, if it is a refusal, or the second.
+pub fn unless(first: Answer, second: Answer) -> Answer
+    ensures { λ r. ⌜ r ≡ verdict (first ∷ []) second ⌝ }
+{
+    if first.number == 0 { second } else { first }
+}
+
+// Done where a test is passed, or else the refusal with this number and detail.
+pub fn test(ok: bool, number: usize, a: usize) -> Answer
+    ensures { λ r. ⌜ r ≡ test ok (says number a 0) ⌝ }
+{
+    if ok {
+        answer(0, 0, 0)
+    } else {
+        answer(number, a, 0)
+    }
+}
+
+// Whether x is from low to high.
+pub fn within(low: usize, x: usize, high: usize) -> bool
+    ensures { λ r. ⌜ r ≡ (leb low x && leb x high) ⌝ }
+{
+    low <= x && x <= high
+}
+
+// 1: a count from low to high, or else refused with a.
+pub fn in_range(a: usize, low: usize, high: usize, x: usize) -> Answer
+    ensures { λ r. ⌜ r ≡ countTest a low high x ⌝ }
+{
+    test(within(low, x, high), 1, a)
+}
+
+// 1: the five counts of a call, the lowest detail first.
+pub fn counts(cars: usize, trains: usize, tracks: usize, room: usize, steps: usize) -> Answer
+    ensures { λ r. ⌜ r ≡ verdict (countTests limits cars trains tracks room steps) (says 0 0 0) ⌝ }
+{
+    let from_room = unless(in_range(4, 1, ROOM, room), in_range(5, 0, STEPS, steps));
+    let from_tracks = unless(in_range(3, 1, TRACKS, tracks), from_room);
+    let from_trains = unless(in_range(2, 1, TRAINS, trains), from_tracks);
+    unless(in_range(1, 1, CARS, cars), from_trains)
+}
+
+// 2: no train of length 0, or else the first such train.
+pub fn trains(lengths: &[u16]) -> Answer
+    ensures { λ r. ⌜ r ≡ trainTest (now (lengths .entry)) ⌝ }
+{
+    for t in 0..lengths.len() {
+        if lengths[t] == 0 {
+            return answer(2, t + 1, 0);
+        }
+    }
+    answer(0, 0, 0)
+}
+
+// The cars of all trains together.
+pub fn total(lengths: &[u16]) -> usize
+    requires { ⌜ length (now lengths) ≤ 4096 ⌝ }
+    ensures { λ r. ⌜ r ≡ sum (now (lengths .entry)) ⌝ }
+{
+    let mut cars: usize = 0;
+    for i in 0..lengths.len() {
+        cars += lengths[i] as usize;
+    }
+    cars
+}
+
+// 2: lengths that add up to n, or else refused with 0.
+pub fn sum(lengths: &[u16], n: usize) -> Answer
+    requires { ⌜ length (now lengths) ≤ 4096 ⌝ }
+    ensures { λ r. ⌜ r ≡ sumTest (now (lengths .entry)) n ⌝ }
+{
+    test(total(lengths) == n, 2, 0)
+}
+
+// The car has been marked.
+fn seen(marks: &[u8], car: usize) -> bool
+    requires { ⌜ (1 ≤ car) × (car ≤ markable (now marks)) ⌝ }
+    ensures { λ r. ⌜ r ≡ marked (now (marks .entry)) car ⌝ }
+{
+    marks[car - 1] == 1
+}
+
+// Marks the car, and no other.
+fn mark(marks: &mut [u8], car: usize)
+    requires { ⌜ (1 ≤ car) × (car ≤ markable (now marks)) ⌝ }
+    ensures { λ _. ⌜ Marks (now (marks .entry)) car (now (marks .exit)) ⌝ }
+{
+    marks[car - 1] = 1;
+}
+
+// Whether a car is out of range or met before.
+fn unfit(marks: &[u8], car: usize, n: usize) -> bool
+    requires { ⌜ n ≤ markable (now marks) ⌝ }
+    ensures { λ r. ⌜ r ≡ unfit (now (marks .entry)) car n ⌝ }
+{
+    if within(1, car, n) {
+        seen(marks, car)
+    } else {
+        true
+    }
+}
+
+// 3: each car once, or else the first place with a number out of range or met before.
+pub fn inbound(inbound: &[u16]) -> Answer
+    requires { ⌜ length (now inbound) ≤ limits .cars ⌝ }
+    ensures { λ r. ⌜ r ≡ inboundTest (now (inbound .entry)) ⌝ }
+{
+    let mut marks = [0u8; CARS];
+    for i in 0..inbound.len() {
+        let car = inbound[i] as usize;
+        if unfit(&marks, car, inbound.len()) {
+            return answer(3, i + 1, 0);
+        }
+        mark(&mut marks, car);
+    }
+    answer(0, 0, 0)
+}
+
+// 4: a list or a buffer of the right length, or else refused with a.
+pub fn list(a: usize, ok: bool) -> Answer
+    ensures { λ r. ⌜ r ≡ listTest a ok ⌝ }
+{
+    test(ok, 4, a)
+}
+
+// 2 to the k.
+pub fn power(k: usize) -> usize
+    requires { ⌜ k ≤ 16 ⌝ }
+    ensures { λ r. ⌜ r ≡ 2 ^ k ⌝ }
+{
+    1 << k
+}
+
+// 7: each code below 2 to the steps, or else the first car with another.
+pub fn codes(codes: &[u16], steps: usize) -> Answer
+    requires { ⌜ steps ≤ 16 ⌝ }
+    ensures { λ r. ⌜ r ≡ codeTest steps (now (codes .entry)) ⌝ }
+{
+    let bound = power(steps);
+    for i in 0..codes.len() {
+        if bound <= codes[i] as usize {
+            return answer(7, i + 1, 0);
+        }
+    }
+    answer(0, 0, 0)
+}
+
+// 2 and 3: the lengths, then the inbound list.
+pub fn lists(lengths: &[u16], inbound: &[u16]) -> Answer
+    requires { ⌜ (length (now lengths) ≤ limits .trains) × (length (now inbound) ≤ limits .cars) ⌝ }
+    ensures { λ r. ⌜ r ≡ verdict (listTests (now (lengths .entry)) (now (inbound .entry))) (says 0 0 0) ⌝ }
+{
+    let later = unless(sum(lengths, inbound.len()), self::inbound(inbound));
+    unless(trains(lengths), later)
+}
