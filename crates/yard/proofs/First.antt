@@ -1,10 +1,11 @@
 -- Laws of `first`: the first of the n numbers from a on that passes a test.
-use mathlib.Core.Path.{_≡_, refl, ap, subst}
+use mathlib.Core.Path.{_≡_, refl, ap, _∙_, subst}
 use mathlib.Core.Logic.{_⊎_, inl, inr, ⊎-elim}
 use mathlib.Core.Bool.{Bool, true, false, cond}
-use Prim.Native.Nat.{ℕ, zero, suc, _+_, _≤_, _<_}
+use Prim.Native.Nat.{ℕ, zero, suc, _+_, _-_, _≤_, _<_}
 use native.Mathlib.Nat.{le-refl, eq-or-lt-of-le, add-zero}
 use native.Mathlib.Omega.{arith}
+use native.Mathlib.Numerals.{add-one}
 use Rattle.yard.proofs.Numbers.{le-or-lt}
 use Rattle.yard.specs.Words.{first}
 use Rattle.yard.proofs.Bools.{clash}
@@ -67,3 +68,21 @@ pub first-same : (p q : ℕ → Bool) (n a : ℕ) → ((j : ℕ) → a ≤ j →
 first-same p q zero a e = refl
 first-same p q (suc n) a e =
     rw (e a (le-refl a) (omega arith)) (ap (λ (k : ℕ). cond (q a) a k) (first-same p q n (suc a) (λ j l h. e j (omega arith) (omega arith))))
+
+-- a search that has come to s: what is left of it, one number on, and where nothing is left
+pub first-next : (p : ℕ → Bool) (h s : ℕ) → s < h → first p (h - s) s ≡ cond (p s) s (first p (h - suc s) (suc s))
+first-next p h s l = ap (λ (n : ℕ). first p n s) e
+  where
+    e : h - s ≡ suc (h - suc s)
+    e = omega arith
+
+pub first-hits : (p : ℕ → Bool) (h s : ℕ) → s < h → p s ≡ true → first p (h - s) s ≡ s
+first-hits p h s l e = first-next p h s l ∙ ap (λ (b : Bool). cond b s (first p (h - suc s) (suc s))) e
+
+pub first-goes : (p : ℕ → Bool) (h s : ℕ) → s < h → p s ≡ false → first p (h - s) s ≡ first p (h - (s + 1)) (s + 1)
+first-goes p h s l e = rw add-one (first-next p h s l ∙ ap (λ (b : Bool). cond b s (first p (h - suc s) (suc s))) e)
+
+pub first-ends : (p : ℕ → Bool) (h s : ℕ) → h ≤ s → first p (h - s) s ≡ s
+first-ends p h s l =
+    let e : h - s ≡ 0 = omega arith in
+    ap (λ (n : ℕ). first p n s) e

@@ -12,16 +12,13 @@ use borrow.Author.Tests.{eq-eqb, ne-eqb, eqb-true, eqb-false, lt-ltb, le-ltb, lt
 use Rattle.yard.specs.Words.{tally, total, count, keep, first, upFrom}
 use Rattle.yard.specs.Replay.{Yard, bit, nextStep, target, rollCar, rollIn, emptied, step, stage}
 use Rattle.yard.proofs.Bools.{split, clash, same-test, not-so}
-use Rattle.yard.proofs.First.{first-from, first-le}
+use Rattle.yard.proofs.First.{first-from, first-le, first-next}
 use Rattle.yard.proofs.Lists.{total-append, total-length, total-keep, total-add, total-none, total-same, count-append, count-keep, count-kept, keep-append, keep-same, keep-keep, keep-none}
 
 -- ---- the next step of a code
 
 pub nextStep-step : (h x s : ℕ) → s < h → nextStep h x s ≡ cond (bit s x) s (nextStep h x (suc s))
-nextStep-step h x s l = ap (λ (n : ℕ). first (λ k. bit k x) n s) e
-  where
-    e : h - s ≡ suc (h - suc s)
-    e = omega arith
+nextStep-step h x s l = first-next (λ k. bit k x) h s l
 
 pub nextStep-from : (h x s : ℕ) → s ≤ nextStep h x s
 nextStep-from h x s = first-from (λ k. bit k x) (h - s) s

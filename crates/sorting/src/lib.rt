@@ -1,0 +1,90 @@
+// What a replay does, worked out from the codes: passes, pulls, the first early pull, the order at a stage.
+ghost use mathlib.Core.Path.{_≡_};
+ghost use Prim.Native.Nat.{_+_, _%_, _^_, max, _≤_, _<_};
+ghost use lib.Count.{ones};
+ghost use lib.ListN.{length};
+ghost use Rattle.yard.specs.Words.{tally};
+ghost use Rattle.yard.specs.Replay.{bit};
+ghost use Rattle.sorting.specs.Sums.{named, setBelow, firstAbove, mostNamed};
+
+// 1 where the code names the step, else 0.
+pub fn names(code: u16, step: usize) -> usize
+    requires { ⌜ step < 16 ⌝ }
+    ensures { λ r. ⌜ r ≡ tally (bit step code) ⌝ }
+{
+    ((code >> step) % 2) as usize
+}
+
+// How many codes name the step: the cars it pulls.
+pub fn pull(codes: &[u16], step: usize) -> usize
+    requires { ⌜ step < 16 ⌝ }
+    ensures { λ r. ⌜ r ≡ named (now (codes .entry)) step ⌝ }
+{
+    let mut cars: usize = 0;
+    for i in 0..codes.len() {
+        cars += names(codes[i], step);
+    }
+    cars
+}
+
+// The first step that pulls more cars than there is room for, or steps where none does.
+pub fn first_above(codes: &[u16], steps: usize, room: usize) -> usize
+    requires { ⌜ steps ≤ 16 ⌝ }
+    ensures { λ r. ⌜ r ≡ firstAbove room (now (codes .entry)) steps ⌝ }
+{
+    for step in 0..steps {
+        if room < pull(codes, step) {
+            return step;
+        }
+    }
+    steps
+}
+
+// The larger of two numbers.
+fn larger(a: usize, b: usize) -> usize
+    ensures { λ r. ⌜ r ≡ max a b ⌝ }
+{
+    if a < b { b } else { a }
+}
+
+// The cars of the fullest pull, 0 where there are no steps.
+pub fn fullest(codes: &[u16], steps: usize) -> usize
+    requires { ⌜ steps ≤ 16 ⌝ }
+    ensures { λ r. ⌜ r ≡ mostNamed (now (codes .entry)) steps ⌝ }
+{
+    let mut most: usize = 0;
+    for step in 0..steps {
+        most = larger(most, pull(codes, step));
+    }
+    most
+}
+
+// The set bits of a code.
+fn ones(code: u16) -> usize
+    ensures { λ r. ⌜ (r ≡ ones code) × (r ≤ 16) ⌝ }
+{
+    u16::count_ones(code) as usize
+}
+
+// The low bits of a code, below a stage.
+fn low(code: u16, stage: usize) -> u16
+    requires { ⌜ stage ≤ 16 ⌝ }
+    ensures { λ r. ⌜ r ≡ code % 2 ^ stage ⌝ }
+{
+    if stage == 16 {
+        return code;
+    }
+    code % (1 << stage)
+}
+
+// The cars that roll in up to a stage: each once, and once more for each set bit of its code below the stage.
+pub fn passes(codes: &[u16], stage: usize) -> usize
+    requires { ⌜ (stage ≤ 16) × (length (now codes) ≤ 4096) ⌝ }
+    ensures { λ r. ⌜ r ≡ length (now (codes .entry)) + setBelow stage (now (codes .entry)) ⌝ }
+{
+    let mut cars: usize = codes.len();
+    for i in 0..codes.len() {
+        cars += ones(low(codes[i], stage));
+    }
+    cars
+}
