@@ -4,7 +4,7 @@ use mathlib.Core.Logic.{_⊎_, inl, inr, ⊎-elim, _↔_}
 use mathlib.Core.Bool.{Bool, true, false, cond}
 use mathlib.Core.List.{List}
 use Prim.Native.Nat.{ℕ, zero, suc, _+_, _-_, _*_, _/_, _%_, _≤_, _<_}
-use native.Mathlib.Nat.{mod-lt, eq-or-lt-of-le, le-step, lt-trans, add-mod-right, div-add-mod', lt-of-mul-lt-mul-right, mul-le-mul-right}
+use native.Mathlib.Nat.{le-refl, mod-lt, eq-or-lt-of-le, le-step, lt-trans, add-mod-right, div-add-mod', lt-of-mul-lt-mul-right, mul-le-mul-right}
 use native.Mathlib.Omega.{arith}
 use lib.Dec.{ltb, eqb}
 use borrow.Author.Tests.{eq-eqb, eqb-true, lt-ltb, le-ltb}
@@ -16,12 +16,15 @@ use Rattle.yard.proofs.First.{first-none, first-hit, first-found}
 use Rattle.yard.proofs.Lists.{count-keep, count-kept}
 use Rattle.yard.proofs.Replay.{nextStep-from, sorted, sorted-count, taken, Clean, standing-sorted}
 
--- a car with this code never waits on the track of a step that its code does not name
-pub Kept : ℕ → ℕ → ℕ → Type 0
-Kept W h x = (s : ℕ) → s < h → bit s x ≡ false → nextStep h x s < h → nextStep h x s % W ≡ s % W → ⊥
+-- a car with this code does not wait at step s on the track of that step without its code naming it; and at no step
+abbrev pub KeptAt : ℕ → ℕ → ℕ → ℕ → Type 0
+KeptAt W h x s = bit s x ≡ false → nextStep h x s < h → nextStep h x s % W ≡ s % W → ⊥
+
+abbrev pub Kept : ℕ → ℕ → ℕ → Type 0
+Kept W h x = (s : ℕ) → s < h → KeptAt W h x s
 
 module _ (W h : ℕ) (pos : 0 < W) (code dest : ℕ → ℕ) (inbound : List ℕ) (away : (c : ℕ) → 0 < count c inbound → W ≤ dest c) where
-  among-taken : (s c : ℕ) → s ≤ h → Clean W h code dest inbound s → (0 < count c (taken W h code dest inbound s)) ↔ ((target W h code dest s c ≡ s % W) × (0 < count c inbound))
+  pub among-taken : (s c : ℕ) → s ≤ h → Clean W h code dest inbound s → (0 < count c (taken W h code dest inbound s)) ↔ ((target W h code dest s c ≡ s % W) × (0 < count c inbound))
   among-taken s c l clean = (into, outof)
     where
       stands : count c (taken W h code dest inbound s) ≡ cond (eqb (s % W) (target W h code dest s c)) (count c (sorted code inbound s)) 0
@@ -38,27 +41,31 @@ module _ (W h : ℕ) (pos : 0 < W) (code dest : ℕ → ℕ) (inbound : List ℕ
       outof p =
           omega (arith, stands, ap (λ (b : Bool). cond b (count c (sorted code inbound s)) 0) (eq-eqb (s % W) (target W h code dest s c) (sym (p .0))), sorted-count code inbound s c, p .1)
 
-  next-clean : (s : ℕ) → s < h → Clean W h code dest inbound s → (c : ℕ) → Kept W h (code c) → 0 < count c (taken W h code dest inbound s) → bit s (code c) ≡ true
-  unfolding Kept
-  next-clean s l clean c kept m = ⊎-elim (λ e. e) (λ e. absurd (waits e (among-taken s c (omega arith) clean .0 m))) (split (bit s (code c)))
+  -- a car that step s takes, where no car was early before, is early exactly if it waits there
+  next-clean : (s : ℕ) → Clean W h code dest inbound s → s ≤ h → (c : ℕ) → KeptAt W h (code c) s → 0 < count c (taken W h code dest inbound s) → bit s (code c) ≡ true
+  next-clean s clean l c kept m = ⊎-elim (λ e. e) (λ e. absurd (waits e (among-taken s c l clean .0 m))) (split (bit s (code c)))
     where
       waits : bit s (code c) ≡ false → (target W h code dest s c ≡ s % W) × (0 < count c inbound) → ⊥
       waits e p =
           ⊎-elim
           (λ last. omega (arith, ap (λ (b : Bool). cond b (nextStep h (code c) s % W) (dest c)) (le-ltb (nextStep h (code c) s) h last), away c (p .1), mod-lt s pos, p .0))
-          (λ n. kept s l e n (sym (ap (λ (b : Bool). cond b (nextStep h (code c) s % W) (dest c)) (lt-ltb (nextStep h (code c) s) h n)) ∙ p .0))
+          (λ n. kept e n (sym (ap (λ (b : Bool). cond b (nextStep h (code c) s % W) (dest c)) (lt-ltb (nextStep h (code c) s) h n)) ∙ p .0))
           (le-or-lt h (nextStep h (code c) s))
 
-  pub clean-of-kept : ((c : ℕ) → 0 < count c inbound → Kept W h (code c)) → (s : ℕ) → s ≤ h → Clean W h code dest inbound s
+  -- steps at which no car waits take none early
+  pub clean-to : (s : ℕ) → s ≤ h → ((j : ℕ) → j < s → (c : ℕ) → 0 < count c inbound → KeptAt W h (code c) j) → Clean W h code dest inbound s
   unfolding Clean
-  clean-of-kept kept zero l = λ k m. absurd (omega arith)
-  clean-of-kept kept (suc s) l =
-      let clean : Clean W h code dest inbound s = clean-of-kept kept s (omega arith) in
+  clean-to zero l kept = λ k m. absurd (omega arith)
+  clean-to (suc s) l kept =
+      let clean : Clean W h code dest inbound s = clean-to s (omega arith) (λ j m. kept j (omega arith)) in
       below-more (λ (k : ℕ). (c : ℕ) → 0 < count c (taken W h code dest inbound k) → bit k (code c) ≡ true) s clean
-      (λ c m. next-clean s l clean c (kept c (among-taken s c (omega arith) clean .0 m .1)) m)
+      (λ c m. next-clean s clean (omega arith) c (kept s (omega arith) c (among-taken s c (omega arith) clean .0 m .1)) m)
+
+  pub clean-of-kept : ((c : ℕ) → 0 < count c inbound → Kept W h (code c)) → Clean W h code dest inbound h
+  clean-of-kept kept = clean-to h (le-refl h) (λ j m c among. kept c among j m)
 
   pub kept-of-clean : Clean W h code dest inbound h → (c : ℕ) → 0 < count c inbound → Kept W h (code c)
-  unfolding Clean Kept
+  unfolding Clean
   kept-of-clean clean c m s l unset n e =
       clash
       (clean s l c (among-taken s c (omega arith) (λ k j. clean k (omega arith)) .1 (ap (λ (b : Bool). cond b (nextStep h (code c) s % W) (dest c)) (lt-ltb (nextStep h (code c) s) h n) ∙ e, m)))
@@ -86,7 +93,6 @@ highest x (suc s) = ⊎-elim (λ e. inr (s, omega arith, e, λ j a b. absurd (om
 module _ (W h x : ℕ) (pos : 0 < W) where
   -- W steps before a set bit with none set in between, the car waits on that step's track
   waits : (l s : ℕ) → s + W ≡ l → l < h → bit l x ≡ true → ((j : ℕ) → s ≤ j → j < l → bit j x ≡ false) → Kept W h x → ⊥
-  unfolding Kept
   waits l s e m set none kept =
       let n : nextStep h x s ≡ l = first-found (λ k. bit k x) (h - s) s l (omega arith) (omega arith) set none in
       kept s (omega arith) (none s (omega arith) (omega arith)) (omega arith) (ap (λ (k : ℕ). k % W) (n ∙ sym e) ∙ add-mod-right s W)
@@ -107,7 +113,6 @@ module _ (W h x : ℕ) (pos : 0 < W) where
       omega (arith, div-add-mod' s W, div-add-mod' l W, mul-le-mul-right W q)
 
   pub kept-of-gaps : Gaps W h x → Kept W h x
-  unfolding Kept
   kept-of-gaps gaps s m unset n e = ⊎-elim (λ none. alone none) (λ r. after r) (highest x s)
     where
       l : ℕ

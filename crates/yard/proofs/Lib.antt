@@ -25,6 +25,7 @@ pub mod DerivedPlan
 pub mod Reasons
 pub mod Demands
 pub mod PlanYard
+pub mod EarlySearch
 pub mod Trials
 pub mod PriceDoubles
 pub mod Price

@@ -112,7 +112,7 @@ module _ (p : Plan) where
   pub never-gaps : 0 < p .night .tracks → NeverEarly p ↔ ((car : ℕ) → 0 < count car (p .night .inbound) → Gaps (p .night .tracks) (p .steps) (codeOf p car))
   never-gaps pos = (
     λ never car m. gaps-of-kept W h (codeOf p car) pos (kept-of-clean W h pos (codeOf p) dest inbound away (clean-of-never never) car m),
-    λ gaps. never-of-clean (clean-of-kept W h pos (codeOf p) dest inbound away (λ car m. kept-of-gaps W h (codeOf p car) pos (gaps car m)) h (le-refl h)),
+    λ gaps. never-of-clean (clean-of-kept W h pos (codeOf p) dest inbound away (λ car m. kept-of-gaps W h (codeOf p car) pos (gaps car m))),
   )
     where
       W : ℕ
