@@ -69,16 +69,20 @@ module _ (p : Plan) (f : Listed (p .night .lengths) (p .night .inbound)) (pos : 
     where
       l′ : ℕ
       l′ = nextStep h (codeOf p car) k
+
       later : Bool
       later = ltb l′ h && eqb (l′ % W) (k % W)
+
       stands : (0 < count car (pulled p k)) ↔ ((target W h (codeOf p) dest k car ≡ k % W) × (0 < count car inbound))
       stands = among-taken W h pos (codeOf p) dest inbound away k car l clean
+
       held : bit k (codeOf p car) ≡ false → target W h (codeOf p) dest k car ≡ k % W → waits W h (codeOf p car) k ≡ true
       held unset t =
           ⊎-elim
           (λ last. absurd (omega (arith, ap (λ (b : Bool). cond b (l′ % W) (dest car)) (le-ltb l′ h last), destination-away (p .night) car, mod-lt k pos)))
           (λ n. and-both (ap not unset) (and-both (lt-ltb l′ h n) (eq-eqb (l′ % W) (k % W) (sym (ap (λ (b : Bool). cond b (l′ % W) (dest car)) (lt-ltb l′ h n)) ∙ t))))
           (le-or-lt h l′)
+
       rolls : waits W h (codeOf p car) k ≡ true → target W h (codeOf p) dest k car ≡ k % W
       rolls e =
           let r = and-right (not (bit k (codeOf p car))) later e in
@@ -110,10 +114,13 @@ module _ (p : Plan) (f : Listed (p .night .lengths) (p .night .inbound)) (pos : 
     where
       a : ℕ
       a = firstWaiting W h (p .codes)
+
       bound : a ≤ h
       bound = omega (arith, first-le (someWaits W h (p .codes)) h 0)
+
       alike : (k : ℕ) → k ≤ a → k ≤ h → leb (lowestEarly p k) (length (p .night .inbound)) ≡ someWaits W h (p .codes) k
       alike k l m = ap₂ (λ (i j : ℕ). leb i j) (lowest-waiting k m (clean-until k l)) (sym each)
+
       quiet : (k : ℕ) → k < a → leb (lowestEarly p k) (length (p .night .inbound)) ≡ false
       quiet k l = alike k (omega arith) (omega (arith, bound)) ∙ first-none (someWaits W h (p .codes)) h 0 k (omega arith) l
 

@@ -1,5 +1,5 @@
 -- Laws of `first`: the first of the n numbers from a on that passes a test.
-use mathlib.Core.Path.{_≡_, refl, ap, _∙_, subst}
+use mathlib.Core.Path.{_≡_, refl, sym, ap, ap₂, _∙_, subst}
 use mathlib.Core.Logic.{_⊎_, inl, inr, ⊎-elim}
 use mathlib.Core.Bool.{Bool, true, false, cond}
 use Prim.Native.Nat.{ℕ, zero, suc, _+_, _-_, _≤_, _<_}
@@ -69,20 +69,20 @@ first-same p q zero a e = refl
 first-same p q (suc n) a e =
     rw (e a (le-refl a) (omega arith)) (ap (λ (k : ℕ). cond (q a) a k) (first-same p q n (suc a) (λ j l h. e j (omega arith) (omega arith))))
 
--- a search that has come to s: what is left of it, one number on, and where nothing is left
-pub first-next : (p : ℕ → Bool) (h s : ℕ) → s < h → first p (h - s) s ≡ cond (p s) s (first p (h - suc s) (suc s))
-first-next p h s l = ap (λ (n : ℕ). first p n s) e
-  where
-    e : h - s ≡ suc (h - suc s)
-    e = omega arith
+-- a search with n - i numbers left, the next of them a: where a passes, where it does not, and where nothing is left
+module _ (p : ℕ → Bool) (n i a : ℕ) where
+  pub first-next : i < n → first p (n - i) a ≡ cond (p a) a (first p (n - suc i) (suc a))
+  first-next l =
+      let e : n - i ≡ suc (n - suc i) = omega arith in
+      ap (λ (k : ℕ). first p k a) e
 
-pub first-hits : (p : ℕ → Bool) (h s : ℕ) → s < h → p s ≡ true → first p (h - s) s ≡ s
-first-hits p h s l e = first-next p h s l ∙ ap (λ (b : Bool). cond b s (first p (h - suc s) (suc s))) e
+  pub first-hits : i < n → p a ≡ true → first p (n - i) a ≡ a
+  first-hits l e = first-next l ∙ ap (λ (b : Bool). cond b a (first p (n - suc i) (suc a))) e
 
-pub first-goes : (p : ℕ → Bool) (h s : ℕ) → s < h → p s ≡ false → first p (h - s) s ≡ first p (h - (s + 1)) (s + 1)
-first-goes p h s l e = rw add-one (first-next p h s l ∙ ap (λ (b : Bool). cond b s (first p (h - suc s) (suc s))) e)
+  pub first-goes : i < n → p a ≡ false → first p (n - i) a ≡ first p (n - (i + 1)) (a + 1)
+  first-goes l e = first-next l ∙ (ap (λ (b : Bool). cond b a (first p (n - suc i) (suc a))) e ∙ ap₂ (λ (j b : ℕ). first p (n - j) b) (sym (add-one i)) (sym (add-one a)))
 
-pub first-ends : (p : ℕ → Bool) (h s : ℕ) → h ≤ s → first p (h - s) s ≡ s
-first-ends p h s l =
-    let e : h - s ≡ 0 = omega arith in
-    ap (λ (n : ℕ). first p n s) e
+  pub first-ends : n ≤ i → first p (n - i) a ≡ a
+  first-ends l =
+      let e : n - i ≡ 0 = omega arith in
+      ap (λ (k : ℕ). first p k a) e

@@ -18,7 +18,7 @@ use Rattle.yard.proofs.Lists.{total-append, total-length, total-keep, t
 -- ---- the next step of a code
 
 pub nextStep-step : (h x s : ℕ) → s < h → nextStep h x s ≡ cond (bit s x) s (nextStep h x (suc s))
-nextStep-step h x s l = first-next (λ k. bit k x) h s l
+nextStep-step h x s l = first-next (λ k. bit k x) h s s l
 
 pub nextStep-from : (h x s : ℕ) → s ≤ nextStep h x s
 nextStep-from h x s = first-from (λ k. bit k x) (h - s) s

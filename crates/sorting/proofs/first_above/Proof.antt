@@ -30,7 +30,7 @@ returns c =
     let at-loop = c .before .before .before in
     let args = at-loop .before .before .args in
     let step = at-loop .loop .step in
-    sym (first-hits (above (args .room) (now (args .codes))) (args .steps) step (c .before .before .loop-test .taken) (lt-ltb (args .room) (named (now (args .codes)) step) (omega arith))) ∙ at-loop .loop .inv .1
+    sym (first-hits (above (args .room) (now (args .codes))) (args .steps) step step (c .before .before .loop-test .taken) (lt-ltb (args .room) (named (now (args .codes)) step) (omega arith))) ∙ at-loop .loop .inv .1
 
 add-step : tie.Need-add-step Inv-loop μ-loop
 add-step c = omega arith
@@ -43,14 +43,14 @@ loop-again c =
     let at-loop = c .before .before .before in
     let args = at-loop .before .before .args in
     let step = at-loop .loop .step in
-    (omega arith, sym (first-goes (above (args .room) (now (args .codes))) (args .steps) step (c .before .before .loop-test .taken) (le-ltb (args .room) (named (now (args .codes)) step) (omega arith))) ∙ at-loop .loop .inv .1)
+    (omega arith, sym (first-goes (above (args .room) (now (args .codes))) (args .steps) step step (c .before .before .loop-test .taken) (le-ltb (args .room) (named (now (args .codes)) step) (omega arith))) ∙ at-loop .loop .inv .1)
 
 returns-2 : tie.Need-returns-2 Inv-loop μ-loop
 returns-2 c =
     let args = c .before .before .before .args in
     let step = c .before .loop .step in
     let end : args .steps ≡ step = omega arith in
-    end ∙ (sym (first-ends (above (args .room) (now (args .codes))) (args .steps) step (c .loop-test .left)) ∙ c .before .loop .inv .1)
+    end ∙ (sym (first-ends (above (args .room) (now (args .codes))) (args .steps) step step (c .loop-test .left)) ∙ c .before .loop .inv .1)
 
 pub first-above-spec : {M : Type 1} → statement M
 first-above-spec = tie.close (tie.spec Inv-loop μ-loop loop-holds pull-requires returns add-step loop-less loop-again returns-2)
