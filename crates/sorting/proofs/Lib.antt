@@ -2,3 +2,6 @@
 pub mod Sums
 pub mod NextStep
 pub mod EarlyLeft
+pub mod Filling
+pub mod Runs
+pub mod Pairs

@@ -1,5 +1,6 @@
 // What a replay does, worked out from the codes: passes, pulls, the first early pull, the order at a stage.
 pub mod early;
+pub mod order;
 
 ghost use mathlib.Core.Path.{_≡_};
 ghost use Prim.Native.Nat.{_+_, _%_, _^_, max, _≤_, _<_};
