@@ -1,6 +1,6 @@
 -- Laws of a verdict: the first refusal of a call's tests is its answer, and where every test passes the answer is what the call says.
 use Prim.Native.Nat.{ℕ}
-use mathlib.Core.Path.{_≡_, refl, ap, _∙_}
+use mathlib.Core.Path.{_≡_, refl, sym, ap, _∙_}
 use mathlib.Core.Logic.{_↔_}
 use mathlib.Core.Bool.{Bool, true, false, cond}
 use mathlib.Core.List.{List, [], _∷_, _++_}
@@ -8,7 +8,7 @@ use lib.Dec.{eqb}
 use lib.ListN.{length, drop}
 use borrow.Author.Tests.{eqb-true, eqb-false, eq-eqb, ne-eqb}
 use Rattle.yard.specs.declared.Answer.{Answer}
-use Rattle.yard.specs.Answers.{test, verdict, written}
+use Rattle.yard.specs.Answers.{says, test, verdict, written}
 
 -- every test of a list is passed
 abbrev pub Passed : List Answer → Type 0
@@ -71,3 +71,43 @@ written-accepted r items buffer e = ap (λ b. cond b (items ++ drop (length item
 
 pub written-refused : (r : Answer) (items buffer : List ℕ) → (r .number ≡ 0 → ⊥) → written r items buffer ≡ buffer
 written-refused r items buffer h = ap (λ b. cond b (items ++ drop (length items) buffer) buffer) (ne-eqb (r .number) 0 h)
+
+-- ---- a call that goes from test to test
+
+-- an answer that is a test's: refused, it is the call's; passed, the call goes on with the tests behind it
+module _ (t : Answer) (ts : List Answer) (done r : Answer) (is : r ≡ t) where
+  pub stops : (r .number ≡ 0 → ⊥) → r ≡ verdict (t ∷ ts) done
+  stops n = is ∙ sym (verdict-refused t ts done (λ z. n (ap (λ (v : Answer). v .number) is ∙ z)))
+
+  pub goes-on : (s : Answer) → r .number ≡ 0 → s ≡ verdict ts done → s ≡ verdict (t ∷ ts) done
+  goes-on s z e = e ∙ sym (verdict-after t ts done (sym (ap (λ (v : Answer). v .number) is) ∙ z))
+
+-- the same for the verdict on several tests
+verdict-kept : (ts : List Answer) (x : Answer) → (verdict ts (says 0 0 0) .number ≡ 0 → ⊥) → verdict ts (says 0 0 0) ≡ verdict ts x
+verdict-kept [] x n = absurd (n refl)
+verdict-kept (t ∷ ts) x n = go (eqb (t .number) 0) (verdict-kept ts x) n
+  where
+    go : (b : Bool) → ((verdict ts (says 0 0 0) .number ≡ 0 → ⊥) → verdict ts (says 0 0 0) ≡ verdict ts x) → (cond b (verdict ts (says 0 0 0)) t .number ≡ 0 → ⊥) → cond b (verdict ts (says 0 0 0)) t ≡ cond b (verdict ts x) t
+    go true later n = later n
+    go false later n = refl
+
+module _ (ts us : List Answer) (done r : Answer) (is : r ≡ verdict ts (says 0 0 0)) where
+  pub stops-all : (r .number ≡ 0 → ⊥) → r ≡ verdict (ts ++ us) done
+  stops-all n = is ∙ (verdict-kept ts (verdict us done) (λ z. n (ap (λ (v : Answer). v .number) is ∙ z)) ∙ sym (verdict-append ts us done))
+
+  pub goes-on-all : (s : Answer) → r .number ≡ 0 → s ≡ verdict us done → s ≡ verdict (ts ++ us) done
+  goes-on-all s z e = e ∙ (sym (verdict-passed ts (verdict us done) (verdict-passes ts (says 0 0 0) .0 (sym (ap (λ (v : Answer). v .number) is) ∙ z) .0)) ∙ sym (verdict-append ts us done))
+
+-- the last test of a call that only tests is its answer
+pub last-is : (b : Bool) (refusal : Answer) → (refusal .number ≡ 0 → ⊥) → test b refusal ≡ verdict (test b refusal ∷ []) (says 0 0 0)
+last-is true refusal n = refl
+last-is false refusal n = sym (verdict-refused refusal [] (says 0 0 0) n)
+
+-- a verdict on some tests, taken as one test before what follows
+pub verdict-nested : (ts : List Answer) (x : Answer) → verdict (verdict ts (says 0 0 0) ∷ []) x ≡ verdict ts x
+verdict-nested [] x = refl
+verdict-nested (t ∷ ts) x = go (eqb (t .number) 0) refl (verdict-nested ts x)
+  where
+    go : (b : Bool) → eqb (t .number) 0 ≡ b → verdict (verdict ts (says 0 0 0) ∷ []) x ≡ verdict ts x → verdict (cond b (verdict ts (says 0 0 0)) t ∷ []) x ≡ cond b (verdict ts x) t
+    go true e later = later
+    go false e later = ap (λ (b : Bool). cond b x t) e

@@ -19,6 +19,13 @@ pub record Plan : Type 0 where
   pub steps : ℕ
   pub codes : List ℕ
 
+-- the night and the plan of what a call is given
+abbrev pub nightOf : List ℕ → List ℕ → ℕ → ℕ → Night
+nightOf lengths inbound tracks room = record { lengths = lengths; inbound = inbound; tracks = tracks; room = room }
+
+abbrev pub planOf : List ℕ → List ℕ → ℕ → ℕ → ℕ → List ℕ → Plan
+planOf lengths inbound tracks room steps codes = record { night = nightOf lengths inbound tracks room; steps = steps; codes = codes }
+
 -- the cars of a list by car, 1 to n
 abbrev pub cars : ℕ → List ℕ
 cars n = upFrom 1 n

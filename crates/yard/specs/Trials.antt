@@ -6,7 +6,7 @@ use lib.ListN.{length, take}
 use Rattle.yard.specs.declared.Answer.{Answer}
 use Rattle.yard.specs.Words.{same}
 use Rattle.yard.specs.Limits.{limits}
-use Rattle.yard.specs.Night.{Night, Plan, cars}
+use Rattle.yard.specs.Night.{Night, Plan, nightOf, cars}
 use Rattle.yard.specs.Replay.{yardAt, built}
 use Rattle.yard.specs.Derived.{derivedCodes, derivedPlan}
 use Rattle.yard.specs.Answers.{written}
@@ -18,16 +18,11 @@ pub record Trial : Type 0 where
   pub meaning : List ℕ
   pub document : List ℕ
 
-night : List ℕ → List ℕ → ℕ → ℕ → Night
-night lengths inbound W C = record { lengths = lengths; inbound = inbound; tracks = W; room = C }
-
 nightN : ℕ → ℕ → Night
-unfolding night
-nightN W C = night (6 ∷ []) (3 ∷ 6 ∷ 1 ∷ 5 ∷ 2 ∷ 4 ∷ []) W C
+nightN W C = nightOf (6 ∷ []) (3 ∷ 6 ∷ 1 ∷ 5 ∷ 2 ∷ 4 ∷ []) W C
 
 reversed : ℕ → ℕ → Night
-unfolding night
-reversed n W = night (n ∷ []) (reverse (cars n)) W 512
+reversed n W = nightOf (n ∷ []) (reverse (cars n)) W 512
 
 plan : Night → ℕ → List ℕ → Plan
 plan n h codes = record { night = n; steps = h; codes = codes }
@@ -54,7 +49,7 @@ trial : ℕ → List ℕ → List ℕ → Trial
 trial k meaning document = record { trial = k; meaning = meaning; document = document }
 
 unfoldable pub trials : List Trial
-unfolding night nightN reversed plan told derives codes checks stands trial
+unfolding nightN reversed plan told derives codes checks stands trial
 trials =
     trial 1 (derives (nightN 2 512) 8) (0 ∷ 2 ∷ 11 ∷ []) ∷
     trial 1 (codes (nightN 2 512)) (0 ∷ 0 ∷ 1 ∷ 1 ∷ 2 ∷ 3 ∷ []) ∷
@@ -70,16 +65,16 @@ trials =
     trial 5 (take 1 (derives (nightN 2 3) 8)) (0 ∷ []) ∷
     trial 6 (built (plan (nightN 2 512) 2 (0 ∷ 0 ∷ 0 ∷ 1 ∷ 2 ∷ 3 ∷ [])) 1) (3 ∷ 1 ∷ 2 ∷ 4 ∷ 5 ∷ 6 ∷ []) ∷
     trial 6 (checks (plan (nightN 2 512) 2 (0 ∷ 0 ∷ 0 ∷ 1 ∷ 2 ∷ 3 ∷ []))) (9 ∷ 3 ∷ 0 ∷ []) ∷
-    trial 7 (derives (night (1 ∷ []) (1 ∷ []) 2 512) 8) (0 ∷ 0 ∷ 1 ∷ []) ∷
-    trial 7 (codes (night (1 ∷ []) (1 ∷ []) 2 512)) (0 ∷ []) ∷
-    trial 8 (take 2 (derives (night (1 ∷ 1 ∷ []) (2 ∷ 1 ∷ []) 2 512) 8)) (0 ∷ 0 ∷ []) ∷
-    trial 8 (take 2 (derives (night (2 ∷ []) (2 ∷ 1 ∷ []) 2 512) 8)) (0 ∷ 1 ∷ []) ∷
+    trial 7 (derives (nightOf (1 ∷ []) (1 ∷ []) 2 512) 8) (0 ∷ 0 ∷ 1 ∷ []) ∷
+    trial 7 (codes (nightOf (1 ∷ []) (1 ∷ []) 2 512)) (0 ∷ []) ∷
+    trial 8 (take 2 (derives (nightOf (1 ∷ 1 ∷ []) (2 ∷ 1 ∷ []) 2 512) 8)) (0 ∷ 0 ∷ []) ∷
+    trial 8 (take 2 (derives (nightOf (2 ∷ []) (2 ∷ 1 ∷ []) 2 512) 8)) (0 ∷ 1 ∷ []) ∷
     trial 9 (take 2 (derives (reversed 7 2) 8)) (0 ∷ 3 ∷ []) ∷
     trial 9 (codes (reversed 7 2)) (0 ∷ 1 ∷ 2 ∷ 3 ∷ 5 ∷ 6 ∷ 7 ∷ []) ∷
     trial 10 (take 2 (derives (reversed 8 2) 8)) (0 ∷ 4 ∷ []) ∷
     trial 10 (take 2 (derives (reversed 8 3) 8)) (0 ∷ 3 ∷ []) ∷
-    trial 11 (checks (plan (night (1 ∷ []) (1 ∷ []) 2 512) 3 (4 ∷ []))) (8 ∷ 1 ∷ 0 ∷ []) ∷
-    trial 12 (derives (night (2 ∷ []) (1 ∷ 1 ∷ []) 2 512) 8) (3 ∷ 2 ∷ 0 ∷ []) ∷
+    trial 11 (checks (plan (nightOf (1 ∷ []) (1 ∷ []) 2 512) 3 (4 ∷ []))) (8 ∷ 1 ∷ 0 ∷ []) ∷
+    trial 12 (derives (nightOf (2 ∷ []) (1 ∷ 1 ∷ []) 2 512) 8) (3 ∷ 2 ∷ 0 ∷ []) ∷
     trial 13 (derives (nightN 1 512) 2) (5 ∷ 3 ∷ 0 ∷ []) ∷
     []
 

@@ -1,0 +1,44 @@
+-- The tests of a plan's replay as the laws let them be worked out, from the lists alone.
+use Prim.Native.Nat.{ℕ, suc, _-_}
+use mathlib.Core.List.{List, [], _∷_, _++_, map}
+use lib.Dec.{leb, eqb}
+use lib.ListN.{length}
+use Rattle.yard.specs.declared.Answer.{Answer}
+use Rattle.yard.specs.Words.{place, first}
+use Rattle.yard.specs.Night.{nightOf, cars, trainOf}
+use Rattle.yard.specs.Answers.{says, test, listTest, codeTest}
+use Rattle.yard.specs.Calls.{nightTests}
+use Rattle.yard.proofs.EarlySearch.{firstWaiting, lowestWaiting}
+use Rattle.sorting.specs.declared.early.Early.{Early}
+use Rattle.sorting.specs.declared.early.Early.the-variants.{At, Never}
+use Rattle.sorting.specs.Sums.{named, firstAbove}
+use Rattle.sorting.specs.Pairs.{unruledAt}
+
+-- 2, 3 and 4: the lists of a plan
+abbrev pub givenTests : List ℕ → List ℕ → List ℕ → List Answer
+givenTests lengths inbound codes = nightTests (nightOf lengths inbound 0 0) ++ (listTest 3 (eqb (length codes) (length inbound)) ∷ [])
+
+-- what the yard is told of the first early pull
+abbrev pub earlyAnswer : Early → Answer
+earlyAnswer (At step car) = says 8 car step
+earlyAnswer Never = says 0 0 0
+
+-- 8: the first step at which a car waits on the track of a step that its code does not name
+abbrev pub waitTest : ℕ → ℕ → List ℕ → Answer
+waitTest W h codes = test (leb h (firstWaiting W h codes)) (says 8 (lowestWaiting W h codes (firstWaiting W h codes)) (firstWaiting W h codes))
+
+-- 6: the first step that more codes name than there is room for
+abbrev pub fullTest : ℕ → ℕ → List ℕ → Answer
+fullTest C h codes = test (leb h (firstAbove C codes h)) (says 6 (firstAbove C codes h) (named codes (firstAbove C codes h)))
+
+-- 7, 8 and 6
+abbrev pub soundTests : ℕ → ℕ → ℕ → List ℕ → List Answer
+soundTests W C h codes = codeTest h codes ∷ waitTest W h codes ∷ fullTest C h codes ∷ []
+
+-- 9: the lowest car that breaks the rule with the next
+abbrev pub firstPair : List ℕ → List ℕ → List ℕ → ℕ
+firstPair lengths inbound codes =
+    first (unruledAt (map (trainOf lengths) (cars (length codes))) (map (λ car. place car inbound) (cars (length codes))) codes) (length codes - 1) 1
+
+abbrev pub pairTest : List ℕ → List ℕ → List ℕ → Answer
+pairTest lengths inbound codes = test (leb (length codes) (firstPair lengths inbound codes)) (says 9 (suc (firstPair lengths inbound codes)) 0)

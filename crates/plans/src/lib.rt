@@ -1,0 +1,77 @@
+// Check: a plan offered by anyone is accepted exactly if its replay is good, its lists and codes being well formed.
+use sorting::early::Early;
+use yard::Answer;
+ghost use mathlib.Core.Path.{_≡_};
+ghost use mathlib.Core.List.{_∷_, []};
+ghost use Prim.Native.Nat.{_+_, _≤_, _<_};
+ghost use lib.ListN.{length};
+ghost use Rattle.yard.specs.Limits.{limits};
+ghost use Rattle.yard.specs.Night.{planOf};
+ghost use Rattle.yard.specs.Answers.{says, verdict};
+ghost use Rattle.yard.specs.Calls.{Checks};
+ghost use Rattle.yard.specs.Demands.{Listed};
+ghost use Rattle.sorting.specs.Sums.{setBelow, mostNamed};
+ghost use Rattle.plans.specs.Closed.{givenTests, waitTest, fullTest, soundTests, firstPair, pairTest};
+
+// 2, 3 and 4: the lists of a plan.
+pub fn given(lengths: &[u16], inbound: &[u16], codes: &[u16]) -> Answer
+    requires { ⌜ (length (now lengths) ≤ limits .trains) × (length (now inbound) ≤ limits .cars) ⌝ }
+    ensures { λ r. ⌜ r ≡ verdict (givenTests (now (lengths .entry)) (now (inbound .entry)) (now (codes .entry))) (says 0 0 0) ⌝ }
+{
+    let each = intake::list(3, codes.len() == inbound.len());
+    intake::unless(intake::lists(lengths, inbound), each)
+}
+
+// 8: no car pulled early, or else the lowest car of the first such step.
+pub fn early(codes: &[u16], tracks: usize, steps: usize) -> Answer
+    requires { ⌜ (0 < tracks) × (steps ≤ 16) ⌝ }
+    ensures { λ r. ⌜ r ≡ waitTest tracks steps (now (codes .entry)) ⌝ }
+{
+    let found = sorting::early::first_early(codes, tracks, steps);
+    match found {
+        Early::At(step, car) => intake::answer(8, car, step),
+        Early::Never => intake::answer(0, 0, 0),
+    }
+}
+
+// 6: no track overfilled, or else the first such step and its cars.
+pub fn full(codes: &[u16], room: usize, steps: usize) -> Answer
+    requires { ⌜ steps ≤ 16 ⌝ }
+    ensures { λ r. ⌜ r ≡ fullTest room steps (now (codes .entry)) ⌝ }
+{
+    let step = sorting::first_above(codes, steps, room);
+    if step < steps {
+        intake::answer(6, step, sorting::pull(codes, step))
+    } else {
+        intake::answer(0, 0, 0)
+    }
+}
+
+// 7, 8 and 6: what the codes alone can break.
+pub fn sound(codes: &[u16], tracks: usize, room: usize, steps: usize) -> Answer
+    requires { ⌜ (0 < tracks) × (steps ≤ 16) ⌝ }
+    ensures { λ r. ⌜ r ≡ verdict (soundTests tracks room steps (now (codes .entry))) (says 0 0 0) ⌝ }
+{
+    let below = intake::codes(codes, steps);
+    if below.number != 0 {
+        return below;
+    }
+    let kept = early(codes, tracks, steps);
+    if kept.number != 0 {
+        return kept;
+    }
+    full(codes, room, steps)
+}
+
+// The lowest car that breaks the rule with the next, or the last car where there is none.
+fn first_pair(lengths: &[u16], inbound: &[u16], codes: &[u16]) -> usize
+    requires { ⌜ (1 ≤ length (now lengths)) × (length (now lengths) ≤ limits .trains) × (1 ≤ length (now codes)) × (length (now codes) ≤ limits .cars) × (length (now codes) ≡ length (now inbound)) × Listed (now lengths) (now inbound) ⌝ }
+    ensures { λ r. ⌜ r ≡ firstPair (now (lengths .entry)) (now (inbound .entry)) (now (codes .entry)) ⌝ }
+{
+    let n = codes.len();
+    let mut trains = [0u16; 512];
+    let mut places = [0u16; 512];
+    sorting::order::trains(lengths, n, &mut trains);
+    sorting::order::places(inbound, &mut places);
+    sorting::order::first_unruled(&trains[0..n], &places[0..n], codes)
+}
