@@ -25,6 +25,7 @@ told-early W h codes = go (leb h (firstWaiting W h codes))
   where
     k : ℕ
     k = firstWaiting W h codes
+
     go : (b : Bool) → earlyAnswer (cond b Never (At k (lowestWaiting W h codes k))) ≡ test b (says 8 (lowestWaiting W h codes k) k)
     go true = refl
     go false = refl

@@ -1,2 +1,4 @@
 -- Laws that the proofs of this crate cite.
 pub mod Closed
+pub mod Replayed
+pub mod Chain

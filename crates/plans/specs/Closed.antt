@@ -1,13 +1,16 @@
 -- The tests of a plan's replay as the laws let them be worked out, from the lists alone.
 use Prim.Native.Nat.{ℕ, suc, _-_}
+use mathlib.Core.Path.{_≡_}
 use mathlib.Core.List.{List, [], _∷_, _++_, map}
 use lib.Dec.{leb, eqb}
 use lib.ListN.{length}
 use Rattle.yard.specs.declared.Answer.{Answer}
+use Rattle.yard.specs.Limits.{limits}
 use Rattle.yard.specs.Words.{place, first}
 use Rattle.yard.specs.Night.{nightOf, cars, trainOf}
 use Rattle.yard.specs.Answers.{says, test, listTest, codeTest}
 use Rattle.yard.specs.Calls.{nightTests}
+use Rattle.yard.specs.Demands.{Within}
 use Rattle.yard.proofs.EarlySearch.{firstWaiting, lowestWaiting}
 use Rattle.sorting.specs.declared.early.Early.{Early}
 use Rattle.sorting.specs.declared.early.Early.the-variants.{At, Never}
@@ -42,3 +45,9 @@ firstPair lengths inbound codes =
 
 abbrev pub pairTest : List ℕ → List ℕ → List ℕ → Answer
 pairTest lengths inbound codes = test (leb (length codes) (firstPair lengths inbound codes)) (says 9 (suc (firstPair lengths inbound codes)) 0)
+
+-- lists whose counts are within the limits, with one code for each car
+pub record Counted (lengths inbound codes : List ℕ) : Type 0 where
+  pub trains : Within 1 (limits .trains) (length lengths)
+  pub cars : Within 1 (limits .cars) (length inbound)
+  pub each : length codes ≡ length inbound

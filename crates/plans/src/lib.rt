@@ -11,7 +11,7 @@ ghost use Rattle.yard.specs.Answers.{says, verdict};
 ghost use Rattle.yard.specs.Calls.{Checks};
 ghost use Rattle.yard.specs.Demands.{Listed};
 ghost use Rattle.sorting.specs.Sums.{setBelow, mostNamed};
-ghost use Rattle.plans.specs.Closed.{givenTests, waitTest, fullTest, soundTests, firstPair, pairTest};
+ghost use Rattle.plans.specs.Closed.{givenTests, waitTest, fullTest, soundTests, firstPair, pairTest, Counted};
 
 // 2, 3 and 4: the lists of a plan.
 pub fn given(lengths: &[u16], inbound: &[u16], codes: &[u16]) -> Answer
@@ -65,7 +65,7 @@ pub fn sound(codes: &[u16], tracks: usize, room: usize, steps: usize) -> Answer
 
 // The lowest car that breaks the rule with the next, or the last car where there is none.
 fn first_pair(lengths: &[u16], inbound: &[u16], codes: &[u16]) -> usize
-    requires { ⌜ (1 ≤ length (now lengths)) × (length (now lengths) ≤ limits .trains) × (1 ≤ length (now codes)) × (length (now codes) ≤ limits .cars) × (length (now codes) ≡ length (now inbound)) × Listed (now lengths) (now inbound) ⌝ }
+    requires { ⌜ Counted (now lengths) (now inbound) (now codes) × Listed (now lengths) (now inbound) ⌝ }
     ensures { λ r. ⌜ r ≡ firstPair (now (lengths .entry)) (now (inbound .entry)) (now (codes .entry)) ⌝ }
 {
     let n = codes.len();
@@ -74,4 +74,46 @@ fn first_pair(lengths: &[u16], inbound: &[u16], codes: &[u16]) -> usize
     sorting::order::trains(lengths, n, &mut trains);
     sorting::order::places(inbound, &mut places);
     sorting::order::first_unruled(&trains[0..n], &places[0..n], codes)
+}
+
+// 9: the trains in order, or else the lowest second car of a pair that breaks the rule; then the passes and the fullest pull.
+fn ordered(lengths: &[u16], inbound: &[u16], codes: &[u16], steps: usize) -> Answer
+    requires { ⌜ Counted (now lengths) (now inbound) (now codes) × Listed (now lengths) (now inbound) × (steps ≤ 16) ⌝ }
+    ensures { λ r. ⌜ r ≡ verdict (pairTest (now (lengths .entry)) (now (inbound .entry)) (now (codes .entry)) ∷ []) (says 0 (length (now (codes .entry)) + setBelow steps (now (codes .entry))) (mostNamed (now (codes .entry)) steps)) ⌝ }
+{
+    let j = first_pair(lengths, inbound, codes);
+    if j < codes.len() {
+        return intake::answer(9, j + 1, 0);
+    }
+    intake::answer(
+        0,
+        sorting::passes(codes, steps),
+        sorting::fullest(codes, steps),
+    )
+}
+
+// A plan is accepted exactly if its lists and codes are well formed and its replay pulls no car early, overfills no track and builds every train in order.
+pub fn check(
+    lengths: &[u16],
+    inbound: &[u16],
+    codes: &[u16],
+    tracks: usize,
+    room: usize,
+    steps: usize,
+) -> Answer
+    ensures { λ r. ⌜ Checks (planOf (now (lengths .entry)) (now (inbound .entry)) tracks room steps (now (codes .entry))) r ⌝ }
+{
+    let counted = intake::counts(inbound.len(), lengths.len(), tracks, room, steps);
+    if counted.number != 0 {
+        return counted;
+    }
+    let listed = given(lengths, inbound, codes);
+    if listed.number != 0 {
+        return listed;
+    }
+    let replayed = sound(codes, tracks, room, steps);
+    if replayed.number != 0 {
+        return replayed;
+    }
+    ordered(lengths, inbound, codes, steps)
 }

@@ -57,14 +57,17 @@ night-agrees n = (
   ),
 )
 
-codes-agree : (h : ℕ) (codes : List ℕ) → Agrees (codeTest h codes) (must 7 (CodesBelow h codes))
-codes-agree h codes = agrees (ltb (length codes) (wideCode h codes)) 6 (wideCode h codes) 0 (CodesBelow h codes) (
+pub codes-passed : (h : ℕ) (codes : List ℕ) → (codeTest h codes .number ≡ 0) ↔ CodesBelow h codes
+codes-passed h codes = (
   λ e car w. leb-false (2 ^ h) (itemOf codes car) (none .0 e car (w .0) (w .1)),
   λ f. none .1 (λ car l m. lt-leb (2 ^ h) (itemOf codes car) (f car (l, m))),
 )
   where
     none : (codeTest h codes .number ≡ 0) ↔ ((j : ℕ) → 1 ≤ j → j ≤ length codes → leb (2 ^ h) (itemOf codes j) ≡ false)
     none = none-passed (λ car. leb (2 ^ h) (itemOf codes car)) (length codes) 6 (wideCode h codes) 0
+
+codes-agree : (h : ℕ) (codes : List ℕ) → Agrees (codeTest h codes) (must 7 (CodesBelow h codes))
+codes-agree h codes = agrees (ltb (length codes) (wideCode h codes)) 6 (wideCode h codes) 0 (CodesBelow h codes) (codes-passed h codes)
 
 early-agrees : (p : Plan) → EachOnce (p .night .inbound) → Agrees (earlyTest p) (must 8 (NeverEarly p))
 early-agrees p once = agrees (leb (p .steps) (firstEarly p)) 7 (lowestEarly p (firstEarly p)) (firstEarly p) (NeverEarly p) (early-passed p (range-once (p .night .inbound) once))

@@ -55,7 +55,7 @@ returns c =
     c .first-unruled .ensures ∙
     ap₂ (λ (t u : List ℕ). first (unruledAt t u codes) (n - 1) 1)
     (front (trainOf (now (at .args .lengths))) n n _ (trains .last .1 .1 .0) refl (trains .ensures))
-    (front (λ car. place car (now (at .args .inbound))) n (length (now (at .args .inbound))) _ (places .last .1 .0) (at .pre .4) (places .ensures))
+    (front (λ car. place car (now (at .args .inbound))) n (length (now (at .args .inbound))) _ (places .last .1 .0) (at .pre .0 .each) (places .ensures))
 
 pub first-pair-spec : {M : Type 1} → statement M
 first-pair-spec =
