@@ -5,3 +5,4 @@ pub mod EarlyLeft
 pub mod Filling
 pub mod Runs
 pub mod Pairs
+pub mod Gathering
