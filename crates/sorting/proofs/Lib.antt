@@ -6,3 +6,5 @@ pub mod Filling
 pub mod Runs
 pub mod Pairs
 pub mod Gathering
+pub mod Counted
+pub mod Standing
