@@ -60,7 +60,7 @@ impl<'a> Unpacker<'a> {
     /// Whether all bits up to the end of the byte are 0.
     pub fn is_rest_of_byte_zero(&mut self) -> bool {
         let mut all_zero = true;
-        while self.taken % 8 != 0 {
+        while !self.taken.is_multiple_of(8) {
             if self.take_bit() {
                 all_zero = false;
             }

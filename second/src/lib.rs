@@ -3,9 +3,15 @@
 
 pub mod answers;
 pub mod bits;
+pub mod harness;
+pub mod idiomatic;
+pub mod nights;
 pub mod programs;
+pub mod random;
 pub mod reference;
 pub mod steps;
+pub mod tally;
+pub mod trials;
 pub mod yard;
 
 use answers::{Answer, CardAnswer, PriceAnswer, Timings};

@@ -362,7 +362,7 @@ fn sixteenths(timing: f64) -> Option<u32> {
     let significand = fraction + (1 << 52);
     let divisor = 1u64 << (1071 - exponent);
     let whole = significand / divisor;
-    if significand % divisor != 0 || whole > 4096 * 16 {
+    if !significand.is_multiple_of(divisor) || whole > 4096 * 16 {
         return None;
     }
     u32::try_from(whole).ok()

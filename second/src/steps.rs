@@ -42,8 +42,8 @@ pub fn two_to(steps: usize) -> u16 {
     power
 }
 
-/// The usable codes by tracks (from 1) and steps, replayed once and kept.
-fn kept_codes(tracks: usize, steps: usize) -> &'static [u16] {
+/// The usable codes for at most eight steps, all of them replayed once and kept.
+pub fn kept_codes(tracks: usize, steps: usize) -> &'static [u16] {
     static KEPT: OnceLock<Vec<Vec<Vec<u16>>>> = OnceLock::new();
     let kept = KEPT.get_or_init(|| {
         let by_steps = |tracks| {

@@ -139,7 +139,7 @@ fn first_early(plan: Plan, pulled: &[u16], step: usize) -> Option<EarlyPull> {
     let mut lowest = None;
     for &car in pulled {
         let due = is_pulled_in(plan.codes[usize::from(car) - 1], step);
-        if !due && lowest.map_or(true, |other| car < other) {
+        if !due && lowest.is_none_or(|other| car < other) {
             lowest = Some(car);
         }
     }

@@ -1,54 +1,14 @@
 //! Every small night: all inbound orders of up to five cars in one to three trains.
 
 use second::answers::Refusal;
+use second::nights::{code_lists, orders, train_lengths};
 use second::reference::{check, derive, Checked};
-use second::steps::two_to;
 use second::yard::{place_of, Replay};
 use second::{Night, Plan};
+use std::collections::BTreeSet;
 
 const MOST_CARS: u16 = 5;
 const MOST_TRACKS: usize = 3;
-
-/// All orders of the cars 1 to n, made by putting car n at every place of the shorter orders.
-fn orders(cars: u16) -> Vec<Vec<u16>> {
-    if cars == 0 {
-        return vec![Vec::new()];
-    }
-    let mut all = Vec::new();
-    for shorter in orders(cars - 1) {
-        for place in 0..=shorter.len() {
-            let mut order = shorter.clone();
-            order.insert(place, cars);
-            all.push(order);
-        }
-    }
-    all
-}
-
-/// All ways to cut the cars into one to three trains.
-fn train_lengths(cars: u16) -> Vec<Vec<u16>> {
-    let mut all = vec![vec![cars]];
-    for first in 1..cars {
-        all.push(vec![first, cars - first]);
-        for second in 1..cars - first {
-            all.push(vec![first, second, cars - first - second]);
-        }
-    }
-    all
-}
-
-/// All code lists for these steps, one after the other, as a counter with n digits.
-fn each_code_list(cars: usize, steps: usize, mut visit: impl FnMut(&[u16])) {
-    let mut codes = vec![0; cars];
-    loop {
-        visit(&codes);
-        let Some(place) = codes.iter().position(|&code| code + 1 < two_to(steps)) else {
-            return;
-        };
-        codes[..place].fill(0);
-        codes[place] += 1;
-    }
-}
 
 fn each_night(cars: u16, mut visit: impl FnMut(Night)) {
     for inbound in orders(cars) {
@@ -69,9 +29,9 @@ fn each_night(cars: u16, mut visit: impl FnMut(Night)) {
 fn there_are_as_many_orders_and_trains_as_there_should_be() {
     assert_eq!(orders(5).len(), 120);
     assert_eq!(train_lengths(5).len(), 1 + 4 + 6);
-    let mut lists = 0;
-    each_code_list(5, 2, |_| lists += 1);
-    assert_eq!(lists, 1024);
+    assert_eq!(train_lengths(4).len(), 1 + 3 + 3);
+    let lists: BTreeSet<_> = code_lists(5, 2).collect();
+    assert_eq!(lists.len(), 1024);
 }
 
 /// Whether every destination track holds exactly its train, front car first.
@@ -107,14 +67,14 @@ fn derived_plans_build_the_trains_in_the_fewest_steps() {
                 "{night:?} with {codes:?}"
             );
             for fewer in 0..steps {
-                each_code_list(usize::from(cars), fewer, |codes| {
+                for codes in code_lists(usize::from(cars), fewer) {
                     let plan = Plan {
                         night,
                         steps: fewer,
-                        codes,
+                        codes: &codes,
                     };
                     assert!(!trains_are_built(plan), "{plan:?} needs fewer than {steps}");
-                });
+                }
             }
         });
     }
@@ -174,13 +134,13 @@ fn built_trains_follow_the_rule_on_pairs() {
     for cars in 1..=4 {
         each_night(cars, |night| {
             for steps in 0..=2 {
-                each_code_list(usize::from(cars), steps, |codes| {
+                for codes in code_lists(usize::from(cars), steps) {
                     agrees_with_the_rules(Plan {
                         night,
                         steps,
-                        codes,
+                        codes: &codes,
                     });
-                });
+                }
             }
         });
     }
@@ -190,13 +150,13 @@ fn built_trains_follow_the_rule_on_pairs() {
 fn built_trains_follow_the_rule_on_pairs_with_three_steps() {
     for cars in 1..=3 {
         each_night(cars, |night| {
-            each_code_list(usize::from(cars), 3, |codes| {
+            for codes in code_lists(usize::from(cars), 3) {
                 agrees_with_the_rules(Plan {
                     night,
                     steps: 3,
-                    codes,
+                    codes: &codes,
                 });
-            });
+            }
         });
     }
 }

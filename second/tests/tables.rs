@@ -59,7 +59,7 @@ fn fewest_tracks_has_the_papers_examples() {
 /// The paper's rule: neighbouring set bits at most W apart, the lowest below W.
 fn keeps_the_gap_rule(code: u16, tracks: usize) -> bool {
     let set: Vec<usize> = (0..16).filter(|&step| is_pulled_in(code, step)).collect();
-    let lowest_fits = set.first().map_or(true, |&lowest| lowest < tracks);
+    let lowest_fits = set.first().is_none_or(|&lowest| lowest < tracks);
     lowest_fits && set.windows(2).all(|pair| pair[1] - pair[0] <= tracks)
 }
 
