@@ -2,9 +2,12 @@
 //! so that no table, closed form or shortcut is shared with the library it is compared with.
 
 pub mod answers;
+pub mod arguments;
 pub mod bits;
 pub mod harness;
 pub mod idiomatic;
+#[cfg(feature = "library")]
+pub mod library;
 pub mod nights;
 pub mod programs;
 pub mod random;
