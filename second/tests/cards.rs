@@ -216,5 +216,15 @@ fn nightplan_ignores_codes_and_steps() {
         written(&careless).map(|bytes| nightplan(&bytes)),
         Ok(EXAMPLE.to_vec())
     );
+    let stepless = Card {
+        steps: 0,
+        codes: vec![0; 6],
+        ..case_one()
+    };
+    assert_eq!(
+        written(&stepless).map(|bytes| nightplan(&bytes)),
+        Ok(EXAMPLE.to_vec())
+    );
     assert_eq!(nightplan(&EXAMPLE[..3]), b"refused 10 5 0\n");
+    assert_eq!(nightplan(&flipped(&[21])), b"refused 6 0 3\n");
 }

@@ -193,6 +193,28 @@ fn the_ends_of_every_range_are_accepted() {
 }
 
 #[test]
+fn counts_just_out_of_range_are_refused() {
+    let sound = Night {
+        lengths: &[2],
+        inbound: &[1, 2],
+        tracks: 1,
+        room: 1,
+    };
+    for tracks in [0, 9, 257, usize::MAX] {
+        let night = Night { tracks, ..sound };
+        expect("derive", derive(night, 0, 2).err(), (1, 3, 0));
+    }
+    for room in [0, 513, 65537, usize::MAX] {
+        let night = Night { room, ..sound };
+        expect("derive", derive(night, 0, 2).err(), (1, 4, 0));
+    }
+    for limit in [9, 256, usize::MAX] {
+        expect("derive", derive(sound, limit, 2).err(), (1, 5, 0));
+    }
+    assert!(derive(sound, 0, 2).is_ok());
+}
+
+#[test]
 fn a_length_list_is_summed_beyond_16_bits() {
     let night = Night {
         lengths: &[65535, 5],

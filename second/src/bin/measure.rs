@@ -13,9 +13,9 @@ use std::time::{Duration, Instant};
 const SIZES: [usize; 3] = [8, 64, 512];
 /// Different nights for each size, so that no branch is learnt by heart.
 const NIGHTS: usize = 128;
-/// Each call is timed in this many rounds; the quickest counts, the others were disturbed.
-const ROUNDS: usize = 15;
-const ROUND: Duration = Duration::from_millis(20);
+/// Each call is timed in many short rounds; the quickest counts, the others were disturbed.
+const ROUNDS: usize = 60;
+const ROUND: Duration = Duration::from_millis(5);
 
 /// One night with all that the calls read and write.
 struct Work {
