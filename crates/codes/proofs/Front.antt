@@ -1,13 +1,13 @@
 -- Laws of a list that is written from the front, and of the numbers that pass a test written so.
-use mathlib.Core.Path.{_≡_, refl, sym, ap, _∙_}
+use mathlib.Core.Path.{_≡_, refl, sym, ap, ap₂, _∙_, subst}
 use mathlib.Core.Bool.{Bool, true, false, cond}
-use mathlib.Core.List.{List, [], _∷_, _++_, append-assoc, append-nil}
+use mathlib.Core.List.{List, [], _∷_, _++_, map, append-assoc, append-nil, map-append}
 use Prim.Native.Nat.{ℕ, zero, suc, _+_, _≤_, _<_}
 use native.Mathlib.Nat.{add-zero, zero-add, add-suc, suc-add}
 use native.Mathlib.Numerals.{add-one}
 use native.Mathlib.Omega.{arith}
-use lib.ListN.{length, getD, drop, set, length-append, length-drop}
-use lib.Seq.{drop-cons, set-at}
+use lib.ListN.{length, getD, take, drop, set, List·getD-append, length-append, length-drop}
+use lib.Seq.{take-suc, drop-cons, set-at, getD-append-add, getD-drop}
 use Rattle.yard.specs.Words.{keep, upFrom}
 use Rattle.yard.proofs.Lists.{keep-append}
 use Rattle.codes.specs.Front.{Front}
@@ -27,6 +27,25 @@ front-next {items} {s} {t} {n} x m f =
 
 pub front-length : {items s t : List ℕ} {n : ℕ} → n ≤ length s → Front items s n t → length t ≡ length s
 front-length {items} {s} {t} {n} m f = ap length (f .listed) ∙ omega (arith, f .number, length-append items (drop n s), length-drop n s)
+
+pub front-fits : {items s t : List ℕ} {n : ℕ} → Front items s n t → n ≤ length t
+front-fits {items} {s} {t} {n} f = omega (arith, f .number, ap length (f .listed), length-append items (drop n s))
+
+-- what stands at the front, and behind it
+pub front-item : {items s t : List ℕ} {n : ℕ} (k : ℕ) → k < n → Front items s n t → getD t k 0 ≡ getD items k 0
+front-item {items} {s} {t} {n} k m f = ap (λ (u : List ℕ). getD u k 0) (f .listed) ∙ List·getD-append items (drop n s) 0 k (omega (arith, f .number))
+
+pub front-behind : {items s t : List ℕ} {n : ℕ} → Front items s n t → getD t n 0 ≡ getD s n 0
+front-behind {items} {s} {t} {n} f =
+    let end : n ≡ length items + 0 = omega (arith, f .number) in
+    ap₂ (λ (u : List ℕ) (k : ℕ). getD u k 0) (f .listed) end ∙
+    (getD-append-add items (drop n s) 0 0 ∙ (getD-drop n s 0 0 ∙ ap (λ (k : ℕ). getD s k 0) (add-zero n)))
+
+-- a list goes to the front item by item, each through g
+pub front-through : (g : ℕ → ℕ) (l : List ℕ) {s t : List ℕ} {i : ℕ} → i < length l → i < length s → Front (map g (take i l)) s i t → Front (map g (take (i + 1) l)) s (i + 1) (set t i (g (getD l i 0)))
+front-through g l {s} {t} {i} m room f =
+    let more : take (i + 1) l ≡ take i l ++ (getD l i 0 ∷ []) = rw add-one (take-suc l i 0 m) in
+    subst (λ (u : List ℕ). Front u s (i + 1) (set t i (g (getD l i 0)))) (sym (ap (map g) more ∙ map-append g (take i l) (getD l i 0 ∷ []))) (front-next (g (getD l i 0)) room f)
 
 -- ---- the numbers from 0 on that pass a test
 
