@@ -2,3 +2,4 @@
 pub mod ByCar
 pub mod Coded
 pub mod Answered
+pub mod Demand
