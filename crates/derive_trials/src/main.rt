@@ -17,7 +17,15 @@ fn listed(items: &[u16]) {
 }
 
 // Derives a night within a limit, and writes the answer, so many items of the buffer, and the night's name.
-fn trial(name: &[u8], lengths: &[u16], inbound: &[u16], tracks: usize, room: usize, limit: usize, shown: usize)
+fn trial(
+    name: &[u8],
+    lengths: &[u16],
+    inbound: &[u16],
+    tracks: usize,
+    room: usize,
+    limit: usize,
+    shown: usize,
+)
     requires { ⌜ shown ≤ 512 ⌝ }
 {
     let mut codes = [77u16; 512];
@@ -52,7 +60,15 @@ fn reversed(name: &[u8], n: usize, tracks: usize, shown: usize)
 
 // The night N on so many tracks.
 fn night_n(name: &[u8], tracks: usize, room: usize, limit: usize) {
-    trial(name, &[6u16], &[3u16, 6, 1, 5, 2, 4], tracks, room, limit, 7);
+    trial(
+        name,
+        &[6u16],
+        &[3u16, 6, 1, 5, 2, 4],
+        tracks,
+        room,
+        limit,
+        7,
+    );
 }
 
 fn main() {

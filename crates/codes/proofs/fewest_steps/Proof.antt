@@ -34,9 +34,6 @@ loop-holds c =
 rem-slot : tie.Need-rem-slot Inv-loop μ-loop
 rem-slot c = c .before .before .pre .0
 
-mul-more : tie.Need-mul-more Inv-loop μ-loop
-mul-more c = omega arith
-
 mul-more-2 : tie.Need-mul-more-2 Inv-loop μ-loop
 mul-more-2 c = omega (arith, mod-lt (c .before .loop .steps) (c .before .before .pre .0))
 
@@ -54,9 +51,6 @@ mul-lost c = omega (arith, mod-lt (c .before .loop .steps) (c .before .before .p
 
 array-write-lost : tie.Need-array-write-lost Inv-loop μ-loop
 array-write-lost c = omega (arith, mod-lt (c .before .loop .steps) (c .before .before .pre .0))
-
-add-steps : tie.Need-add-steps Inv-loop μ-loop
-add-steps c = omega arith
 
 loop-less : tie.Need-loop-less Inv-loop μ-loop
 loop-less c = omega (arith, F-above (c .before .before .args .tracks) (c .before .loop .steps) (c .before .before .pre .0))
@@ -81,17 +75,5 @@ pub fewest-steps-spec : {M : Type 1} → statement M
 fewest-steps-spec =
     tie.close
     (tie.spec
-    Inv-loop
-    μ-loop
-    loop-holds
-    rem-slot
-    mul-more
-    mul-more-2
-    array-read-more
-    sub-more
-    mul-lost
-    array-write-lost
-    add-steps
-    loop-less
-    loop-again
-    returns)
+    Inv-loop μ-loop loop-holds rem-slot (λ c. omega arith) mul-more-2 array-read-more sub-more mul-lost array-write-lost
+    (λ c. omega arith) loop-less loop-again returns)

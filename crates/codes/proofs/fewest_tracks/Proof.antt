@@ -6,11 +6,8 @@ use Rattle.codes.proofs.Gap.{entry}
 use Rattle.codes.proofs.fewest_tracks.Statement.{statement}
 use Rattle.codes.proofs.fewest_tracks.Tie as tie
 
-array-read-wide : tie.Need-array-read-wide
-array-read-wide c = search needs
-
 returns : tie.Need-returns
 returns c = c .wide .ensures ∙ entry 8 (c .before .args .code) (omega arith) (omega arith)
 
 pub fewest-tracks-spec : {M : Type 1} → statement M
-fewest-tracks-spec = tie.close (tie.spec array-read-wide (λ c κs. tt) returns)
+fewest-tracks-spec = tie.close (tie.spec (λ c. search needs) (λ c κs. tt) returns)

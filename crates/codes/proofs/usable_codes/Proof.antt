@@ -23,9 +23,6 @@ Inv-loop tracks steps into₀ found₀ end code₀ into found code =
 abbrev μ-loop : tie.MeasureT-loop
 μ-loop tracks steps into₀ found₀ end code₀ into found code = end - code
 
-power-requires : tie.Need-power-requires Inv-loop μ-loop
-power-requires c κs = omega arith
-
 loop-holds : tie.Need-loop-holds Inv-loop μ-loop
 loop-holds c = (omega arith, omega arith, refl, front-none (now (c .before .before .args .into)))
 
@@ -39,9 +36,6 @@ below-256 c =
 cast-fewest-tracks : tie.Need-cast-fewest-tracks Inv-loop μ-loop
 cast-fewest-tracks c = omega (arith, below-256 c)
 
-fewest-tracks-requires : tie.Need-fewest-tracks-requires Inv-loop μ-loop
-fewest-tracks-requires c κs = tt
-
 cast-into : tie.Need-cast-into Inv-loop μ-loop
 cast-into c = omega (arith, below-256 (c .before .before))
 
@@ -50,15 +44,6 @@ mul-into c = omega (arith, below-256 (c .before .before))
 
 slice-write-into : tie.Need-slice-write-into Inv-loop μ-loop
 slice-write-into c = omega (arith, c .before .before .before .before .power .ensures)
-
-add-found : tie.Need-add-found Inv-loop μ-loop
-add-found c = omega arith
-
-add-code : tie.Need-add-code Inv-loop μ-loop
-add-code c = omega arith
-
-loop-less : tie.Need-loop-less Inv-loop μ-loop
-loop-less c = omega arith
 
 loop-again : tie.Need-loop-again Inv-loop μ-loop
 loop-again c =
@@ -86,18 +71,5 @@ pub usable-codes-spec : {M : Type 1} → statement M
 usable-codes-spec =
     tie.close
     (tie.spec
-    Inv-loop
-    μ-loop
-    power-requires
-    loop-holds
-    cast-fewest-tracks
-    fewest-tracks-requires
-    cast-into
-    mul-into
-    slice-write-into
-    add-found
-    add-code
-    loop-less
-    loop-again
-    same-length
-    returns)
+    Inv-loop μ-loop (λ c κs. omega arith) loop-holds cast-fewest-tracks (λ c κs. tt) cast-into mul-into slice-write-into
+    (λ c. omega arith) (λ c. omega arith) (λ c. omega arith) loop-again same-length returns)

@@ -1,15 +1,12 @@
 -- The proof of `derive`.
 use mathlib.Core.Path.{sym, ap, _∙_}
 use denote.Ref.{now}
+use borrow.Author.Needs.{needs}
 use Rattle.yard.specs.declared.Answer.{Answer}
 use Rattle.derive.specs.Plans.{nightOf}
 use Rattle.derive.proofs.Answered.{given-passed, derive-refused, derive-planned}
-use borrow.Author.Needs.{needs}
 use Rattle.derive.proofs.derive.Statement.{statement}
 use Rattle.derive.proofs.derive.Tie as tie
-
-given-requires : tie.Need-given-requires
-given-requires c κs = search needs
 
 returns : tie.Need-returns
 returns c =
@@ -22,9 +19,6 @@ plan-requires c κs =
     let args = at-test .before .before .before .before .before .before .args in
     given-passed (nightOf (now (args .lengths)) (now (args .inbound)) (args .tracks) (args .room)) (args .limit) (now (args .codes)) (ap (λ (a : Answer). a .number) (sym (at-test .before .before .given .ensures)) ∙ at-test .if1 .left)
 
-same-length : tie.Need-same-length
-same-length c = search needs
-
 returns-2 : tie.Need-returns-2
 returns-2 c =
     let called = c .before .before in
@@ -33,4 +27,4 @@ returns-2 c =
     derive-planned (nightOf (now (args .lengths)) (now (args .inbound)) (args .tracks) (args .room)) (args .limit) (now (args .codes)) (ap (λ (a : Answer). a .number) (sym (at-test .before .before .given .ensures)) ∙ at-test .if1 .left) (called .plan .ensures)
 
 pub derive-spec : {M : Type 1} → statement M
-derive-spec = tie.close (tie.spec given-requires returns plan-requires same-length returns-2)
+derive-spec = tie.close (tie.spec (λ c κs. search needs) returns plan-requires (λ c. search needs) returns-2)

@@ -1,20 +1,17 @@
 -- The proof of `give`: the numbers passed have become codes.
-use mathlib.Core.List.{append-nil}
-use lib.Seq.{drop-length}
-use Rattle.codes.proofs.Front.{front-fits}
-use Rattle.derive.proofs.Coded.{table-code}
+use mathlib.Core.List.{append-nil, map}
 use mathlib.Core.Path.{_≡_, refl, ap, _∙_}
-use mathlib.Core.List.{map}
 use Prim.Native.Nat.{_-_, _≤_, _<_}
 use native.Mathlib.Omega.{arith}
+use lib.Seq.{drop-length, take-length}
 use lib.ListN.{length, getD, take, length-set}
-use lib.Seq.{take-length}
-use denote.Ref.{now}
 use lib.Pow.{pow-mono}
+use denote.Ref.{now}
 use Rattle.yard.specs.Codes.{F, codeNumber}
 use Rattle.yard.proofs.Least.{F-usable}
+use Rattle.codes.proofs.Front.{front-fits, front-none, front-behind, front-through}
 use Rattle.codes.specs.Front.{Front}
-use Rattle.codes.proofs.Front.{front-none, front-behind, front-through}
+use Rattle.derive.proofs.Coded.{table-code}
 use Rattle.derive.proofs.give.Statement.{statement}
 use Rattle.derive.proofs.give.Tie as tie
 
@@ -33,12 +30,6 @@ usable-codes-requires c κs = (c .before .before .pre .0, c .before .before .pre
 
 loop-holds : tie.Need-loop-holds Inv-loop μ-loop
 loop-holds c = (omega arith, refl, front-none (now (c .before .before .before .before .args .numbers)))
-
-mul-q : tie.Need-mul-q Inv-loop μ-loop
-mul-q c = omega arith
-
-slice-read-q : tie.Need-slice-read-q Inv-loop μ-loop
-slice-read-q c = omega arith
 
 -- the number at hand is as it came, so it has a code
 number-known : (c : tie.After-slice-known2 Inv-loop μ-loop) → getD (c .before .before .loop .numbers) (c .before .before .loop .i) 0 ≡ getD (now (c .before .before .before .before .before .before .before .args .numbers)) (c .before .before .loop .i) 0
@@ -64,18 +55,6 @@ mul-numbers c = omega (arith, number-fits c)
 
 array-read-numbers : tie.Need-array-read-numbers Inv-loop μ-loop
 array-read-numbers c = number-fits c
-
-mul-numbers-2 : tie.Need-mul-numbers-2 Inv-loop μ-loop
-mul-numbers-2 c = omega arith
-
-slice-write-numbers : tie.Need-slice-write-numbers Inv-loop μ-loop
-slice-write-numbers c = omega arith
-
-add-i : tie.Need-add-i Inv-loop μ-loop
-add-i c = omega arith
-
-loop-less : tie.Need-loop-less Inv-loop μ-loop
-loop-less c = omega arith
 
 loop-again : tie.Need-loop-again Inv-loop μ-loop
 loop-again c =
@@ -104,20 +83,6 @@ pub give-spec : {M : Type 1} → statement M
 give-spec =
     tie.close
     (tie.spec
-    Inv-loop
-    μ-loop
-    slice-aggregate-usable-codes
-    usable-codes-requires
-    loop-holds
-    mul-q
-    slice-read-q
-    cast-q
-    mul-numbers
-    array-read-numbers
-    mul-numbers-2
-    slice-write-numbers
-    add-i
-    loop-less
-    loop-again
-    same-length
-    returns)
+    Inv-loop μ-loop slice-aggregate-usable-codes usable-codes-requires loop-holds (λ c. omega arith) (λ c. omega arith) cast-q
+    mul-numbers array-read-numbers (λ c. omega arith) (λ c. omega arith) (λ c. omega arith) (λ c. omega arith) loop-again
+    same-length returns)

@@ -1,21 +1,17 @@
 -- The proof of `given`.
-use mathlib.Core.Path.{ap₂}
+use mathlib.Core.Path.{ap₂, sym, ap, _∙_}
 use mathlib.Core.List.{[], _∷_}
-use Rattle.yard.specs.Answers.{verdict}
-use mathlib.Core.Path.{sym, ap, _∙_}
-use denote.Ref.{now}
 use lib.ListN.{length}
+use denote.Ref.{now}
+use borrow.Author.Needs.{needs}
+use Rattle.yard.specs.Answers.{verdict}
 use Rattle.yard.specs.declared.Answer.{Answer}
 use Rattle.yard.specs.Limits.{limits}
 use Rattle.intake.proofs.Passed.{counts-within}
 use Rattle.derive.specs.Plans.{nightOf}
 use Rattle.derive.proofs.Answered.{given-counts, given-lists}
-use borrow.Author.Needs.{needs}
 use Rattle.derive.proofs.given.Statement.{statement}
 use Rattle.derive.proofs.given.Tie as tie
-
-counts-requires : tie.Need-counts-requires
-counts-requires c κs = search needs
 
 returns : tie.Need-returns
 returns c =
@@ -28,12 +24,6 @@ lists-requires c κs =
     let within = counts-within limits (length (now (args .inbound))) (length (now (args .lengths))) (args .tracks) (args .room) (args .limit) .0 (ap (λ (a : Answer). a .number) (sym (c .before .before .counts .ensures)) ∙ c .if1 .left) in
     (within .trains .1, within .cars .1)
 
-list-requires : tie.Need-list-requires
-list-requires c κs = search needs
-
-unless-requires : tie.Need-unless-requires
-unless-requires c κs = search needs
-
 returns-2 : tie.Need-returns-2
 returns-2 c =
     let called = c .before .before .before in
@@ -44,4 +34,5 @@ returns-2 c =
 pub given-spec : {M : Type 1} → statement M
 given-spec =
     tie.close
-    (tie.spec counts-requires returns lists-requires list-requires unless-requires returns-2)
+    (tie.spec
+    (λ c κs. search needs) returns lists-requires (λ c κs. search needs) (λ c κs. search needs) returns-2)

@@ -28,12 +28,6 @@ loop-holds c =
     let listed = c .before .before .before .before .before .before .pre .0 in
     (omega arith, refl, counted-none (now (args .lengths)) (now (args .inbound)) listed (now (args .into)))
 
-mul-cars : tie.Need-mul-cars Inv-loop μ-loop
-mul-cars c = omega arith
-
-shared-slice-read-cars : tie.Need-shared-slice-read-cars Inv-loop μ-loop
-shared-slice-read-cars c = omega arith
-
 cast-cars : tie.Need-cast-cars Inv-loop μ-loop
 cast-cars c = omega (arith, c .shared-slice-known3 .given (c .before .before .loop .t))
 
@@ -54,12 +48,6 @@ train-requires c κs =
 
 add-before : tie.Need-add-before Inv-loop μ-loop
 add-before c = omega (arith, within (c .before .before .before .before .before .before .before))
-
-add-t : tie.Need-add-t Inv-loop μ-loop
-add-t c = omega arith
-
-loop-less : tie.Need-loop-less Inv-loop μ-loop
-loop-less c = omega arith
 
 loop-again : tie.Need-loop-again Inv-loop μ-loop
 loop-again c =
@@ -85,19 +73,5 @@ pub numbers-spec : {M : Type 1} → statement M
 numbers-spec =
     tie.close
     (tie.spec
-    Inv-loop
-    μ-loop
-    slice-aggregate-places
-    places-requires
-    loop-holds
-    mul-cars
-    shared-slice-read-cars
-    cast-cars
-    slice-aggregate-train
-    train-requires
-    add-before
-    add-t
-    loop-less
-    loop-again
-    same-length
-    returns)
+    Inv-loop μ-loop slice-aggregate-places places-requires loop-holds (λ c. omega arith) (λ c. omega arith) cast-cars
+    slice-aggregate-train train-requires add-before (λ c. omega arith) (λ c. omega arith) loop-again same-length returns)

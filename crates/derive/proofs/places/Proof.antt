@@ -19,17 +19,8 @@ abbrev μ-loop : tie.MeasureT-loop
 loop-holds : tie.Need-loop-holds Inv-loop μ-loop
 loop-holds c = (omega arith, refl, below-none _)
 
-mul-car : tie.Need-mul-car Inv-loop μ-loop
-mul-car c = omega arith
-
-shared-slice-read-car : tie.Need-shared-slice-read-car Inv-loop μ-loop
-shared-slice-read-car c = omega arith
-
 cast-car : tie.Need-cast-car Inv-loop μ-loop
 cast-car c = omega (arith, c .shared-slice-known .given (c .before .before .loop .i))
-
-cast-into : tie.Need-cast-into Inv-loop μ-loop
-cast-into c = omega arith
 
 sub-into : tie.Need-sub-into Inv-loop μ-loop
 sub-into c = omega (arith, item-car (now (c .before .before .before .args .inbound)) (c .before .before .before .pre .0) (c .before .before .loop .i) (c .before .loop-test .taken))
@@ -39,12 +30,6 @@ mul-into c = omega (arith, item-car (now (c .before .before .before .args .inbou
 
 slice-write-into : tie.Need-slice-write-into Inv-loop μ-loop
 slice-write-into c = omega (arith, item-car (now (c .before .before .before .args .inbound)) (c .before .before .before .pre .0) (c .before .before .loop .i) (c .before .loop-test .taken))
-
-add-i : tie.Need-add-i Inv-loop μ-loop
-add-i c = omega arith
-
-loop-less : tie.Need-loop-less Inv-loop μ-loop
-loop-less c = omega arith
 
 loop-again : tie.Need-loop-again Inv-loop μ-loop
 loop-again c =
@@ -67,18 +52,5 @@ pub places-spec : {M : Type 1} → statement M
 places-spec =
     tie.close
     (tie.spec
-    Inv-loop
-    μ-loop
-    loop-holds
-    mul-car
-    shared-slice-read-car
-    cast-car
-    cast-into
-    sub-into
-    mul-into
-    slice-write-into
-    add-i
-    loop-less
-    loop-again
-    same-length
-    returns)
+    Inv-loop μ-loop loop-holds (λ c. omega arith) (λ c. omega arith) cast-car (λ c. omega arith) sub-into mul-into
+    slice-write-into (λ c. omega arith) (λ c. omega arith) loop-again same-length returns)

@@ -1,14 +1,12 @@
 -- The proof of `train`: the cars passed have the breaks before them.
-use lib.Seq.{getD-set-same}
-use Rattle.derive.specs.Numbers.{turned}
-use Rattle.derive.proofs.ByCar.{tally-le, train-from}
 use mathlib.Core.Path.{_≡_, refl, ap, _∙_}
 use Prim.Native.Nat.{ℕ, _+_, _-_, _≤_}
 use native.Mathlib.Omega.{arith}
+use lib.Seq.{getD-set-same}
 use lib.ListN.{length, set, length-set}
 use denote.Ref.{now}
-use Rattle.derive.specs.Numbers.{Train}
-use Rattle.derive.proofs.ByCar.{train-first, train-next}
+use Rattle.derive.specs.Numbers.{turned, Train}
+use Rattle.derive.proofs.ByCar.{tally-le, train-from, train-first, train-next}
 use Rattle.derive.proofs.train.Statement.{statement}
 use Rattle.derive.proofs.train.Tie as tie
 
@@ -19,22 +17,10 @@ Inv-loop places before cars into₀ breaks₀ k₀ into breaks k =
 abbrev μ-loop : tie.MeasureT-loop
 μ-loop places before cars into₀ breaks₀ k₀ into breaks k = cars - k
 
-mul-into : tie.Need-mul-into Inv-loop μ-loop
-mul-into c = omega arith
-
-slice-write-into : tie.Need-slice-write-into Inv-loop μ-loop
-slice-write-into c = omega arith
-
 loop-holds : tie.Need-loop-holds Inv-loop μ-loop
 loop-holds c =
     let args = c .before .before .args in
     (omega arith, omega arith, refl, train-first (now (args .places)) (args .before) (set (now (args .into)) (args .before) 0) (getD-set-same (now (args .into)) (args .before) 0 0 (omega arith)))
-
-add-turned : tie.Need-add-turned Inv-loop μ-loop
-add-turned c = omega arith
-
-turned-requires : tie.Need-turned-requires Inv-loop μ-loop
-turned-requires c κs = omega arith
 
 -- the breaks so far are fewer than the cars, and the pair at hand is one more at most
 one-more : (c : tie.After-turned Inv-loop μ-loop) → c .before .before .loop .breaks + c .turned .result ≤ c .before .before .loop .k
@@ -48,22 +34,10 @@ add-breaks c = omega (arith, one-more c)
 cast-into : tie.Need-cast-into Inv-loop μ-loop
 cast-into c = omega (arith, one-more c)
 
-add-into : tie.Need-add-into Inv-loop μ-loop
-add-into c = omega arith
-
-mul-into-2 : tie.Need-mul-into-2 Inv-loop μ-loop
-mul-into-2 c = omega arith
-
 slice-write-into-2 : tie.Need-slice-write-into-2 Inv-loop μ-loop
 slice-write-into-2 c =
     let args = c .before .before .before .before .before .args in
     omega (arith, length-set (now (args .into)) (args .before) 0)
-
-add-k : tie.Need-add-k Inv-loop μ-loop
-add-k c = omega arith
-
-loop-less : tie.Need-loop-less Inv-loop μ-loop
-loop-less c = omega arith
 
 loop-again : tie.Need-loop-again Inv-loop μ-loop
 loop-again c =
@@ -87,20 +61,6 @@ pub train-spec : {M : Type 1} → statement M
 train-spec =
     tie.close
     (tie.spec
-    Inv-loop
-    μ-loop
-    mul-into
-    slice-write-into
-    loop-holds
-    add-turned
-    turned-requires
-    add-breaks
-    cast-into
-    add-into
-    mul-into-2
-    slice-write-into-2
-    add-k
-    loop-less
-    loop-again
-    same-length
-    returns)
+    Inv-loop μ-loop (λ c. omega arith) (λ c. omega arith) loop-holds (λ c. omega arith) (λ c κs. omega arith) add-breaks
+    cast-into (λ c. omega arith) (λ c. omega arith) slice-write-into-2 (λ c. omega arith) (λ c. omega arith) loop-again
+    same-length returns)
