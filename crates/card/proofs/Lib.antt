@@ -1,0 +1,2 @@
+-- The laws of this crate, by topic.
+pub mod Places
