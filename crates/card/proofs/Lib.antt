@@ -1,2 +1,3 @@
 -- The laws of this crate, by topic.
 pub mod Places
+pub mod Drawing

@@ -3,6 +3,7 @@ use yard::Answer;
 use yard::CardAnswer;
 
 mod fields; // fields.rt: numbers read from the bits of a card
+mod pens; // pens.rt: bits written on a card in order
 
 ghost use mathlib.Core.Path.{_≡_};
 

@@ -156,7 +156,7 @@ fromBits-below zero bits b = omega arith
 fromBits-below (suc w) bits b = rw (fromBits-step w bits, pow-succ' 2 w) (digits-lt (b 0) (fromBits-below w (drop 1 bits) (below-drop 1 bits b)))
 
 -- bits above the w lowest are not written
-toBits-low : (w q r : ℕ) → toBits w (q * 2 ^ w + r) ≡ toBits w r
+pub toBits-low : (w q r : ℕ) → toBits w (q * 2 ^ w + r) ≡ toBits w r
 toBits-low zero q r = refl
 toBits-low (suc w) q r =
     ap (λ k. toBits (suc w) (k + r)) (ap (λ k. q * k) (pow-succ' 2 w) ∙ sym (mul-assoc q 2 (2 ^ w)))
