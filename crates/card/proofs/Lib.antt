@@ -1,3 +1,5 @@
 -- The laws of this crate, by topic.
 pub mod Places
 pub mod Drawing
+pub mod Parts
+pub mod Reading
