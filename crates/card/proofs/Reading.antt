@@ -6,16 +6,19 @@ use native.Mathlib.Nat.{mul-le-mul}
 use native.Mathlib.Omega.{arith}
 use lib.ListN.{length, take, drop, replicate}
 use lib.Seq.{take-at, drop-at, drop-drop}
+use borrow.Author.Tests.{eq-eqb, ne-eqb}
 use Rattle.yard.specs.declared.Answer.{Answer}
+use Rattle.yard.specs.declared.CardAnswer.{CardAnswer}
 use Rattle.yard.specs.Limits.{limits}
 use Rattle.yard.specs.Night.{sum}
-use Rattle.yard.specs.Answers.{says, test, verdict}
+use Rattle.yard.specs.Answers.{says, test, verdict, written}
 use Rattle.yard.specs.Calls.{nightTests}
-use Rattle.yard.specs.Card.{widths, fromBits, unpacked, bitsOf, cardLength, headField, cardPlan, rightLength, endsRight, readerVerdict}
-use Rattle.yard.proofs.Verdict.{verdict-passes}
+use Rattle.yard.specs.Card.{widths, fromBits, unpacked, bitsOf, cardLength, headField, cardPlan, rightLength, endsRight, readerSays, readerVerdict, readerAnswer, Reads}
+use Rattle.yard.proofs.Verdict.{verdict-passes, written-accepted, written-refused}
 use Rattle.yard.proofs.Tests.{Within, counts-passed}
 use Rattle.yard.proofs.Bits.{sum-replicate}
-use Rattle.yard.proofs.Card.{widths-sum}
+use Rattle.yard.proofs.Card.{widths-sum, cardPlan-trains, cardPlan-cars, cardPlan-codes}
+use Rattle.yard.proofs.CardCalls.{reader-accepts}
 use Rattle.intake.proofs.Tests.{last-test}
 use Rattle.card.specs.declared.Head.{Head}
 use Rattle.card.specs.Fields.{fieldAt, fieldsAt, endsAt}
@@ -127,3 +130,64 @@ head-short size h e =
     let counts = verdict-passes (headTests size h) (says 0 0 0) .0 e .0 .1 .1 .1 in
     let within = counts-passed limits (h .cars) (h .trains) (h .tracks) (h .room) (h .steps) .0 counts in
     record { steps = within .steps .1; cars = within .cars .1; trains = within .trains .1 }
+
+-- The call: with a head and a verdict in hand, the buffers after it are as they were, or hold the card's lists.
+module _
+    (bytes l i c : List ℕ)
+    {v : Answer}
+    (judged : v ≡ readerVerdict limits bytes (length l) (length i) (length c))
+  where
+    pub reads-refused : {r : CardAnswer} → (v .number ≡ 0 → ⊥) → r ≡ readerSays v 0 0 0 0 0 → Reads bytes l i c r l i c
+    unfolding readerAnswer
+    reads-refused fails told =
+        let w = readerVerdict limits bytes (length l) (length i) (length c) in
+        let refused : w .number ≡ 0 → ⊥ = λ e. fails (ap (λ r. r .number) judged ∙ e) in
+        record {
+          answer = told ∙ rw (ne-eqb (w .number) 0 refused) (ap (λ v. readerSays v 0 0 0 0 0) judged);
+          lengths = sym (written-refused w (cardPlan bytes .night .lengths) l refused);
+          inbound = sym (written-refused w (cardPlan bytes .night .inbound) i refused);
+          codes = sym (written-refused w (cardPlan bytes .codes) c refused);
+        }
+
+    module _ (passed : v .number ≡ 0) where
+      accepted : readerVerdict limits bytes (length l) (length i) (length c) .number ≡ 0
+      accepted = sym (ap (λ r. r .number) judged) ∙ passed
+
+      -- the head is within the limits, and the buffers have room
+      pub accepted-room : let h = headOf bytes in Short (h .steps) (h .cars) (h .trains) × (h .trains ≤ length l) × (h .cars ≤ length i) × (h .cars ≤ length c)
+      unfolding headOf
+      accepted-room =
+          let r = reader-accepts limits bytes (length l) (length i) (length c) .0 accepted in
+          let w = r .counts in
+          (record { steps = w .steps .1; cars = w .cars .1; trains = w .trains .1 }, r .lengths, r .inbound, r .codes)
+
+      -- a list of the plan at the front of its buffer
+      front : (items found buffer : List ℕ) (n : ℕ)
+          → items ≡ found
+          → length items ≡ n
+          → found ++ drop n buffer ≡ written (readerVerdict limits bytes (length l) (length i) (length c)) items buffer
+      front items found buffer n e size =
+          sym
+          (written-accepted (readerVerdict limits bytes (length l) (length i) (length c)) items buffer accepted
+          ∙ ap (λ k. items ++ drop k buffer) size
+          ∙ ap (λ l. l ++ drop n buffer) e)
+
+      pub reads-accepted : {r : CardAnswer}
+          → let h = headOf bytes in
+          r ≡ readerSays v (h .steps) (h .tracks) (h .room) (h .cars) (h .trains)
+          → Reads bytes l i c r
+          (lengthsOn bytes (h .trains) ++ drop (h .trains) l)
+          (inboundOn bytes (h .cars) (h .trains) ++ drop (h .cars) i)
+          (codesOn bytes (h .steps) (h .cars) (h .trains) ++ drop (h .cars) c)
+      unfolding headOf readerAnswer
+      reads-accepted told =
+          let w = readerVerdict limits bytes (length l) (length i) (length c) in
+          record {
+            answer =
+                told
+                ∙ rw (eq-eqb (w .number) 0 accepted)
+                (ap (λ v. readerSays v (headField bytes 1) (headField bytes 2) (headField bytes 3) (headField bytes 4) (headField bytes 5)) judged);
+            lengths = front (cardPlan bytes .night .lengths) _ l _ (plan-lengths bytes) (cardPlan-trains bytes);
+            inbound = front (cardPlan bytes .night .inbound) _ i _ (plan-inbound bytes) (cardPlan-cars bytes);
+            codes = front (cardPlan bytes .codes) _ c _ (plan-codes bytes) (cardPlan-codes bytes);
+          }

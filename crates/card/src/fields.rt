@@ -1,7 +1,8 @@
 // Numbers read from the bits of a card, most significant bit first. A bit behind the end counts as 0.
 ghost use mathlib.Core.Path.{_≡_};
 ghost use Prim.Native.Nat.{_+_, _*_, _≤_};
-ghost use lib.ListN.{length, getD};
+ghost use mathlib.Core.List.{_++_};
+ghost use lib.ListN.{length, getD, drop};
 ghost use Rattle.card.specs.Fields.{fieldAt, fieldsAt, endsAt};
 
 // The byte at a place.
@@ -27,12 +28,12 @@ pub fn field(card: &[u8], at: usize, width: usize) -> usize
     (window(card, at / 8) >> (24 - at % 8 - width)) % intake::power(width)
 }
 
-// Fills a buffer with numbers of `width` bits each, from a place on.
-pub fn fields(card: &[u8], at: usize, width: usize, out: &mut [u16])
-    requires { ⌜ (width ≤ 16) × (at + length (now out) * width ≤ 65536) ⌝ }
-    ensures { λ _. ⌜ now (out .exit) ≡ fieldsAt (now (card .entry)) at width (length (now (out .entry))) ⌝ }
+// Fills the first `count` items of a buffer with numbers of `width` bits each, from a place on.
+pub fn fields(card: &[u8], at: usize, width: usize, count: usize, out: &mut [u16])
+    requires { ⌜ (width ≤ 16) × (at + count * width ≤ 65536) × (count ≤ length (now out)) ⌝ }
+    ensures { λ _. ⌜ now (out .exit) ≡ fieldsAt (now (card .entry)) at width count ++ drop count (now (out .entry)) ⌝ }
 {
-    for i in 0..out.len() {
+    for i in 0..count {
         out[i] = field(card, at + i * width, width) as u16;
     }
 }

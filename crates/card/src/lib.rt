@@ -1,10 +1,12 @@
 // The night card of document 01: its reader and its writer.
 use yard::Answer;
 use yard::CardAnswer;
+
 mod fields; // fields.rt: numbers read from the bits of a card
 mod pens; // pens.rt: bits written on a card in order
 mod reader; // reader.rt: the reader's tests
 mod writer; // writer.rt: the writer's tests, and the card drawn
+
 ghost use mathlib.Core.Path.{_≡_};
 ghost use Rattle.yard.specs.Night.{sum};
 ghost use Rattle.yard.specs.Card.{widths, cardLength, readerSays, Reads, Writes};
@@ -76,12 +78,11 @@ pub fn read(card: &[u8], lengths: &mut [u16], inbound: &mut [u16], codes: &mut [
         };
         return told(verdict, none);
     }
-    let cars = head.cars;
-    let trains = head.trains;
-    let inbound_place = 39 + trains * 10;
-    fields::fields(card, 39, 10, &mut lengths[0..trains]);
-    fields::fields(card, inbound_place, 10, &mut inbound[0..cars]);
-    fields::fields(card, inbound_place + cars * 10, head.steps, &mut codes[0..cars]);
+    let inbound_at = 39 + head.trains * 10;
+    let codes_at = inbound_at + head.cars * 10;
+    fields::fields(card, 39, 10, head.trains, lengths);
+    fields::fields(card, inbound_at, 10, head.cars, inbound);
+    fields::fields(card, codes_at, head.steps, head.cars, codes);
     told(verdict, head)
 }
 

@@ -40,7 +40,10 @@ fn size_tests(size: usize, head: Head, lengths: usize, inbound: usize, codes: us
     ensures { λ r. ⌜ r ≡ verdict (sizeTests size head lengths inbound codes) (says 0 0 0) ⌝ }
 {
     let right = crate::length(head.steps, head.cars, head.trains);
-    let by_car = intake::unless(intake::list(2, head.cars <= inbound), intake::list(3, head.cars <= codes));
+    let by_car = intake::unless(
+        intake::list(2, head.cars <= inbound),
+        intake::list(3, head.cars <= codes),
+    );
     let buffers = intake::unless(intake::list(1, head.trains <= lengths), by_car);
     intake::unless(intake::test(right <= size, 10, right), buffers)
 }
@@ -50,8 +53,10 @@ fn lists(card: &[u8], lengths: &mut [u16], inbound: &mut [u16]) -> Answer
     requires { ⌜ Short 0 (length (now inbound)) (length (now lengths)) ⌝ }
     ensures { λ r. ⌜ r ≡ verdict (listsOn (now (card .entry)) (length (now (inbound .entry))) (length (now (lengths .entry)))) (says 0 0 0) ⌝ }
 {
-    fields::fields(card, 39, 10, lengths);
-    fields::fields(card, 39 + lengths.len() * 10, 10, inbound);
+    let trains = lengths.len();
+    let cars = inbound.len();
+    fields::fields(card, 39, 10, trains, lengths);
+    fields::fields(card, 39 + trains * 10, 10, cars, inbound);
     intake::lists(lengths, inbound)
 }
 

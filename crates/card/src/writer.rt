@@ -12,7 +12,14 @@ ghost use Rattle.card.specs.Plans.{planOf, Drawable, cardOver};
 ghost use Rattle.card.specs.Pens.{fresh, Draws};
 
 // Draws the head of a card.
-fn head(card: &mut [u8], steps: usize, tracks: usize, room: usize, cars: usize, trains: usize) -> Pen
+fn head(
+    card: &mut [u8],
+    steps: usize,
+    tracks: usize,
+    room: usize,
+    cars: usize,
+    trains: usize,
+) -> Pen
     requires { ⌜ 5 ≤ length (now card) ⌝ }
     ensures { λ r. ⌜ Draws 7 (packed headWidths (1 ∷ steps ∷ tracks ∷ room ∷ cars ∷ trains ∷ [])) (now (card .entry)) fresh (now (card .exit)) r ⌝ }
 {

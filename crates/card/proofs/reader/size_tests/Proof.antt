@@ -10,8 +10,7 @@ returns : tie.Need-returns
 returns c =
     let inner = c .before .before .before .before .before in
     let args = inner .before .before .before .before .before .before .args in
-    rw
-    (
+    rw (
       c .unless3 .ensures,
       c .before .test .ensures,
       c .before .before .unless2 .ensures,

@@ -53,8 +53,7 @@ returns-3 c =
     let args = start .args in
     let head = sym (ap (λ r. r .number) (first (at-else .before .before))) ∙ at-else .if1 .left in
     let sizes = sym (ap (λ r. r .number) (second (at-else2 .before .before))) ∙ at-else2 .if2 .left in
-    rw
-    (
+    rw (
       c .unless .ensures,
       c .before .night-tests .ensures,
       c .before .before .test .ensures,
