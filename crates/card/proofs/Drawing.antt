@@ -32,7 +32,7 @@ toBits-joined v w p x =
     ∙ ap (λ l. toBits v p ++ l) (toBits-low w p (x % 2 ^ w) ∙ toBits-mod w x)
 
 -- Lists: bytes one behind the other, fields one behind the other.
-packed-append : (ws vs xs ys : List ℕ) → length xs ≡ length ws → packed (ws ++ vs) (xs ++ ys) ≡ packed ws xs ++ packed vs ys
+pub packed-append : (ws vs xs ys : List ℕ) → length xs ≡ length ws → packed (ws ++ vs) (xs ++ ys) ≡ packed ws xs ++ packed vs ys
 packed-append [] vs [] ys e = refl
 packed-append [] vs (x ∷ xs) ys e = absurd (suc-ne-zero (length xs) e)
 packed-append (w ∷ ws) vs [] ys e = absurd (suc-ne-zero (length ws) (sym e))

@@ -3,3 +3,4 @@ pub mod Places
 pub mod Drawing
 pub mod Parts
 pub mod Reading
+pub mod Writing

@@ -1,51 +1,37 @@
+-- The proof of `head`: six numbers are drawn one behind the other.
+use native.Mathlib.Omega.{arith}
 use borrow.Author.Needs.{needs}
+use Rattle.card.proofs.Drawing.{draws-then}
 use Rattle.card.proofs.writer.head.Statement.{statement}
 use Rattle.card.proofs.writer.head.Tie as tie
-use Rattle.card.proofs.writer.head.Reads as reads
-use Rattle.card.proofs.writer.head.Lts as lts
-use Rattle.card.proofs.pens.put.Reads as put-reads
 
--- src/writer.rt:24:9
-put-requires : tie.Need-put-requires
-put-requires c κs = search needs
-
--- src/writer.rt:25:9
-put-requires-2 : tie.Need-put-requires-2
-put-requires-2 c κs = search needs
-
--- src/writer.rt:26:9
-put-requires-3 : tie.Need-put-requires-3
-put-requires-3 c κs = search needs
-
--- src/writer.rt:27:9
-put-requires-4 : tie.Need-put-requires-4
-put-requires-4 c κs = search needs
-
--- src/writer.rt:28:9
-put-requires-5 : tie.Need-put-requires-5
-put-requires-5 c κs = search needs
-
--- src/writer.rt:29:5
 put-requires-6 : tie.Need-put-requires-6
-put-requires-6 c κs = ?
+put-requires-6 c κs = omega (arith, c .before .before .before .before .before .before .before .before .before .before .before)
 
--- src/writer.rt:15:1
 same-length : tie.Need-same-length
-same-length c = ?
+same-length c =
+    let third = c .before .before .before .before .before .before .before .before .before .before .before .before .before .before in
+    omega (arith, third)
 
--- src/writer.rt:15:1
 returns : tie.Need-returns
-returns c = ?
+returns c =
+    let sixth = c .before .before in
+    let fifth = sixth .before .before .before .before in
+    let fourth = fifth .before .before .before .before in
+    let third = fourth .before .before .before .before in
+    let second = third .before .before .before .before in
+    let first = second .before .before .before .before in
+    draws-then (draws-then (draws-then (draws-then (draws-then (first .put .ensures) (second .put2 .ensures)) (third .put3 .ensures)) (fourth .put4 .ensures)) (fifth .put5 .ensures)) (sixth .put6 .ensures)
 
 pub head-spec : {M : Type 1} → statement M
 head-spec =
     tie.close
     (tie.spec
-    put-requires
-    put-requires-2
-    put-requires-3
-    put-requires-4
-    put-requires-5
+    (λ c κs. search needs)
+    (λ c κs. search needs)
+    (λ c κs. search needs)
+    (λ c κs. search needs)
+    (λ c κs. search needs)
     put-requires-6
     same-length
     returns)
