@@ -5,14 +5,14 @@ use mathlib.Core.List.{List, [], _∷_, _++_, append-assoc, append-nil}
 use native.Mathlib.Nat.{zero-add, suc-add, add-comm, add-sub-of-le, suc-inj, suc-ne-zero, mod-lt, lt-of-lt-of-le}
 use native.Mathlib.Numerals.{add-one}
 use native.Mathlib.Omega.{arith}
-use lib.ListN.{length, getD, take, drop, set, replicate, length-append, length-replicate, length-set, take-append-drop, replicate-append-replicate}
+use lib.ListN.{length, getD, take, drop, set, replicate, length-append, length-replicate, take-append-drop, replicate-append-replicate}
 use lib.Arith.{digits-lt}
 use lib.Pow.{pow-pos, pow-mono, pow-add, shr-lt, shr-shr, high, split}
-use lib.Seq.{length-take-le, take-suc, take-suc-set, drop-set-lt, drop-drop, getD-take}
+use lib.Seq.{length-take-le, take-suc, take-suc-set, drop-set-lt, drop-drop}
 use Rattle.yard.specs.Card.{toBits, packed, unpacked, wholeBytes, toBytes, bitsOf}
 use Rattle.yard.proofs.Bits.{Below, fits-run, length-toBits, toBits-low, unpacked-packed, unpacked-zeros, length-toBytes, length-packed, sum-replicate}
 use Rattle.card.specs.declared.Pen.{Pen}
-use Rattle.card.specs.Pens.{fresh, drawn, reach, Ready, Draws}
+use Rattle.card.specs.Pens.{fresh, drawn, Draws}
 
 -- A number of v + w bits is one of v bits before one of w.
 toBits-add : (v w x : ℕ) → toBits (v + w) x ≡ toBits v (x / 2 ^ w) ++ toBits w x

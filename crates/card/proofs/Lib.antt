@@ -4,3 +4,4 @@ pub mod Drawing
 pub mod Parts
 pub mod Reading
 pub mod Writing
+pub mod Calls

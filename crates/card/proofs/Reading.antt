@@ -1,5 +1,5 @@
 -- Laws of the reader: where the numbers and lists of a card stand, and its verdict in parts.
-use Prim.Native.Nat.{ℕ, suc, _+_, _*_, _≤_}
+use Prim.Native.Nat.{ℕ, _+_, _*_, _≤_}
 use mathlib.Core.Path.{_≡_, refl, sym, ap, _∙_}
 use mathlib.Core.List.{List, [], _∷_, _++_}
 use native.Mathlib.Nat.{mul-le-mul}
@@ -12,10 +12,9 @@ use Rattle.yard.specs.declared.CardAnswer.{CardAnswer}
 use Rattle.yard.specs.Limits.{limits}
 use Rattle.yard.specs.Night.{sum}
 use Rattle.yard.specs.Answers.{says, test, verdict, written}
-use Rattle.yard.specs.Calls.{nightTests}
-use Rattle.yard.specs.Card.{widths, fromBits, unpacked, bitsOf, cardLength, headField, cardPlan, rightLength, endsRight, readerSays, readerVerdict, readerAnswer, Reads}
+use Rattle.yard.specs.Card.{widths, unpacked, bitsOf, cardLength, headField, cardPlan, rightLength, endsRight, readerSays, readerVerdict, readerAnswer, Reads}
 use Rattle.yard.proofs.Verdict.{verdict-passes, written-accepted, written-refused}
-use Rattle.yard.proofs.Tests.{Within, counts-passed}
+use Rattle.yard.proofs.Tests.{counts-passed}
 use Rattle.yard.proofs.Bits.{sum-replicate}
 use Rattle.yard.proofs.Card.{widths-sum, cardPlan-trains, cardPlan-cars, cardPlan-codes}
 use Rattle.yard.proofs.CardCalls.{reader-accepts}
@@ -25,7 +24,7 @@ use Rattle.card.specs.Fields.{fieldAt, fieldsAt, endsAt}
 use Rattle.card.specs.Heads.{headOf, lengthsOn, inboundOn, codesOn, headTests, sizeTests, listsOn}
 use Rattle.card.specs.Plans.{Short}
 use Rattle.card.proofs.Places.{unpacked-append, length-fieldsAt}
-use Rattle.card.proofs.Parts.{part-refused, part-passed, verdict-part}
+use Rattle.card.proofs.Parts.{verdict-part, part-refused, part-passed, within-short}
 
 -- The longest card within the limits has 9,895 bits.
 pub bits-bounded : {h n m : ℕ} → Short h n m → sum (widths h n m) ≤ 9895
@@ -128,8 +127,7 @@ module _ (bytes : List ℕ) (a b c : ℕ) where
 pub head-short : (size : ℕ) (h : Head) → verdict (headTests size h) (says 0 0 0) .number ≡ 0 → Short (h .steps) (h .cars) (h .trains)
 head-short size h e =
     let counts = verdict-passes (headTests size h) (says 0 0 0) .0 e .0 .1 .1 .1 in
-    let within = counts-passed limits (h .cars) (h .trains) (h .tracks) (h .room) (h .steps) .0 counts in
-    record { steps = within .steps .1; cars = within .cars .1; trains = within .trains .1 }
+    within-short (counts-passed limits (h .cars) (h .trains) (h .tracks) (h .room) (h .steps) .0 counts)
 
 -- The call: with a head and a verdict in hand, the buffers after it are as they were, or hold the card's lists.
 module _
@@ -158,8 +156,7 @@ module _
       unfolding headOf
       accepted-room =
           let r = reader-accepts limits bytes (length l) (length i) (length c) .0 accepted in
-          let w = r .counts in
-          (record { steps = w .steps .1; cars = w .cars .1; trains = w .trains .1 }, r .lengths, r .inbound, r .codes)
+          (within-short (r .counts), r .lengths, r .inbound, r .codes)
 
       -- a list of the plan at the front of its buffer
       front : (items found buffer : List ℕ) (n : ℕ)

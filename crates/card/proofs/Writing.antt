@@ -1,6 +1,6 @@
 -- Laws of the writer: the bits of a card in the order in which they are drawn, their room, and its answer in parts.
 use Prim.Native.Nat.{ℕ, _+_, _*_, _≤_, _<_}
-use mathlib.Core.Path.{_≡_, refl, sym, ap, _∙_}
+use mathlib.Core.Path.{_≡_, sym, ap, _∙_}
 use mathlib.Core.List.{List, [], _∷_, _++_, append-assoc}
 use native.Mathlib.Omega.{arith}
 use lib.Dec.{leb, eqb}
@@ -11,17 +11,17 @@ use Rattle.yard.specs.Limits.{limits}
 use Rattle.yard.specs.Night.{Plan}
 use Rattle.yard.specs.Answers.{says, verdict, listTest, codeTest}
 use Rattle.yard.specs.Calls.{nightCounts, nightTests}
-use Rattle.yard.specs.Card.{headWidths, widths, fields, packed, toBytes, cardLength, card, writerAnswer, Writes}
-use Rattle.yard.proofs.Verdict.{verdict-passes, written-accepted, written-refused}
-use Rattle.yard.proofs.Tests.{counts-passed}
-use Rattle.yard.proofs.Bits.{length-packed, sum-replicate, wholeBytes-enough}
-use Rattle.yard.proofs.Card.{planWidths, widths-sum, card-length}
+use Rattle.yard.specs.Card.{headWidths, fields, packed, toBytes, cardLength, card, writerAnswer, Writes}
+use Rattle.yard.proofs.Verdict.{written-accepted, written-refused}
+use Rattle.yard.proofs.Bits.{length-packed, sum-replicate}
+use Rattle.yard.proofs.Card.{widths-sum, card-length}
 use Rattle.yard.proofs.CardCalls.{writer-accepts}
+use Rattle.intake.proofs.Passed.{counts-within}
 use Rattle.card.specs.declared.Pen.{Pen}
 use Rattle.card.specs.Pens.{reach, Ready, Draws}
 use Rattle.card.specs.Plans.{Short, Drawable, cardOver}
 use Rattle.card.proofs.Drawing.{packed-append}
-use Rattle.card.proofs.Parts.{part-refused, part-passed}
+use Rattle.card.proofs.Parts.{part-refused, part-passed, within-short}
 
 -- the bits of a list whose numbers have one width
 abbrev pub run : ℕ → List ℕ → List ℕ
@@ -95,9 +95,7 @@ module _ (p : Plan) (size : ℕ) where
     -- the counts are within the limits
     pub counts-short : Short (p .steps) (length (p .night .inbound)) (length (p .night .lengths))
     counts-short =
-        let passed = verdict-passes (nightCounts limits (p .night) (p .steps)) (says 0 0 0) .0 counts .0 in
-        let within = counts-passed limits (length (p .night .inbound)) (length (p .night .lengths)) (p .night .tracks) (p .night .room) (p .steps) .0 passed in
-        record { steps = within .steps .1; cars = within .cars .1; trains = within .trains .1 }
+        within-short (counts-within limits (length (p .night .inbound)) (length (p .night .lengths)) (p .night .tracks) (p .night .room) (p .steps) .0 counts)
 
     pub refused-lists : (verdict (nightTests (p .night)) (says 0 0 0) .number ≡ 0 → ⊥)
         → verdict (nightTests (p .night)) (says 0 0 0) ≡ writerAnswer limits p size
@@ -124,8 +122,7 @@ module _ (p : Plan) (before : List ℕ) {r : Answer} (answered : r ≡ writerAns
   pub accepted-drawable : r .number ≡ 0 → Drawable p (length before)
   accepted-drawable e =
       let w = writer-accepts limits p (length before) .0 (sym (ap (λ r. r .number) answered) ∙ e) in
-      let counts = w .counts in
-      record { short = record { steps = counts .steps .1; cars = counts .cars .1; trains = counts .trains .1 }; coded = w .coded; room = w .room }
+      record { short = within-short (w .counts); coded = w .coded; room = w .room }
 
   pub writes-accepted : {after : List ℕ} → r .number ≡ 0 → after ≡ cardOver p before → Writes p before r after
   writes-accepted e over =

@@ -1,5 +1,4 @@
 -- The proof of `read`: nothing is written before the verdict, and behind it the lists are where the buffers have room.
-use mathlib.Core.Path.{_≡_}
 use Prim.Native.Nat.{_≤_}
 use native.Mathlib.Nat.{mul-le-mul}
 use native.Mathlib.Omega.{arith}

@@ -1,6 +1,4 @@
 -- The proof of `field`: the number is the middle of the three bytes.
-use mathlib.Core.Path.{_≡_, ap, _∙_}
-use Prim.Native.Nat.{_-_, _/_, _%_, _^_}
 use lib.Pow.{pow-pos}
 use denote.Ref.{now}
 use borrow.Author.Needs.{needs}

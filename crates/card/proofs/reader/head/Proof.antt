@@ -1,5 +1,4 @@
 -- The proof of `head`: each number stands at its place.
-use mathlib.Core.Path.{sym}
 use denote.Ref.{now}
 use borrow.Author.Needs.{needs}
 use Rattle.card.proofs.Reading.{head-places}
