@@ -144,11 +144,11 @@ fromBits-none : (w : ℕ) → fromBits w [] ≡ 0
 fromBits-none zero = refl
 fromBits-none (suc w) = refl
 
-fromBits-step : (w : ℕ) (bits : List ℕ) → fromBits (suc w) bits ≡ getD bits 0 0 * 2 ^ w + fromBits w (drop 1 bits)
+pub fromBits-step : (w : ℕ) (bits : List ℕ) → fromBits (suc w) bits ≡ getD bits 0 0 * 2 ^ w + fromBits w (drop 1 bits)
 fromBits-step w [] = sym (ap (λ r. 0 * 2 ^ w + r) (fromBits-none w) ∙ omega (arith, zero-mul (2 ^ w)))
 fromBits-step w (b ∷ bits) = refl
 
-below-drop : {k : ℕ} (n : ℕ) (l : List ℕ) → Below k l → Below k (drop n l)
+pub below-drop : {k : ℕ} (n : ℕ) (l : List ℕ) → Below k l → Below k (drop n l)
 below-drop n l b i = rw (getD-drop n l i 0) (b (n + i))
 
 pub fromBits-below : (w : ℕ) (bits : List ℕ) → Below 2 bits → fromBits w bits < 2 ^ w
@@ -156,7 +156,7 @@ fromBits-below zero bits b = omega arith
 fromBits-below (suc w) bits b = rw (fromBits-step w bits, pow-succ' 2 w) (digits-lt (b 0) (fromBits-below w (drop 1 bits) (below-drop 1 bits b)))
 
 -- bits above the w lowest are not written
-toBits-low : (w q r : ℕ) → toBits w (q * 2 ^ w + r) ≡ toBits w r
+pub toBits-low : (w q r : ℕ) → toBits w (q * 2 ^ w + r) ≡ toBits w r
 toBits-low zero q r = refl
 toBits-low (suc w) q r =
     ap (λ k. toBits (suc w) (k + r)) (ap (λ k. q * k) (pow-succ' 2 w) ∙ sym (mul-assoc q 2 (2 ^ w)))

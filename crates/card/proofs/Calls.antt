@@ -1,0 +1,79 @@
+-- The two calls together, on what they promise: a written card is read back, and a card that is read is the one that is written.
+use Prim.Native.Nat.{ℕ, _≤_}
+use mathlib.Core.Path.{_≡_, refl, sym, ap, _∙_}
+use mathlib.Core.List.{List, _++_}
+use native.Mathlib.Omega.{arith}
+use lib.ListN.{length, take, drop, length-append}
+use lib.Seq.{take-append-seam}
+use Rattle.yard.specs.declared.Answer.{Answer}
+use Rattle.yard.specs.declared.CardAnswer.{CardAnswer}
+use Rattle.yard.specs.Night.{Plan}
+use Rattle.yard.specs.Limits.{limits}
+use Rattle.yard.specs.Answers.{written}
+use Rattle.yard.specs.Card.{card, cardPlan, writerAnswer, Writes, Reads}
+use Rattle.yard.proofs.Bits.{Below}
+use Rattle.yard.proofs.Card.{cardPlan-cars, cardPlan-codes}
+use Rattle.yard.proofs.CardCalls.{Told, read-told, written-then-read, read-then-written}
+use Rattle.card.specs.Plans.{planOf}
+
+-- the plan that a caller of the reader has in hand: the first items of the buffers, and the answer's numbers
+abbrev pub planRead : CardAnswer → List ℕ → List ℕ → List ℕ → Plan
+planRead r lengths inbound codes =
+    planOf (take (r .trains) lengths) (take (r .cars) inbound) (take (r .cars) codes) (r .tracks) (r .room) (r .steps)
+
+-- after an acceptance that is the plan of the card
+front : (items buffer : List ℕ) (k : ℕ) (held : List ℕ) → k ≡ length items → held ≡ items ++ drop (length items) buffer → take k held ≡ items
+front items buffer k held e h = ap (λ n. take n held) e ∙ ap (take (length items)) h ∙ take-append-seam items (drop (length items) buffer)
+
+pub plan-read : {bytes l i c : List ℕ} {r : CardAnswer} {l₁ i₁ c₁ : List ℕ} → Reads bytes l i c r l₁ i₁ c₁ → r .number ≡ 0 → planRead r l₁ i₁ c₁ ≡ cardPlan bytes
+plan-read {bytes} {l} {i} {c} {r} {l₁} {i₁} {c₁} reads e =
+    let p = cardPlan bytes in
+    let told = read-told reads e in
+    let coded : length (p .night .inbound) ≡ length (p .codes) = cardPlan-cars bytes ∙ sym (cardPlan-codes bytes) in
+    let lengths = front (p .night .lengths) l (r .trains) l₁ (ap (λ r. r .trains) (told .answer)) (told .lengths) in
+    let inbound = front (p .night .inbound) i (r .cars) i₁ (ap (λ r. r .cars) (told .answer)) (told .inbound) in
+    let codes = front (p .codes) c (r .cars) c₁ (ap (λ r. r .cars) (told .answer) ∙ coded) (told .codes) in
+    ap (λ x. planOf x (take (r .cars) i₁) (take (r .cars) c₁) (r .tracks) (r .room) (r .steps)) lengths
+    ∙ ap (λ x. planOf (p .night .lengths) x (take (r .cars) c₁) (r .tracks) (r .room) (r .steps)) inbound
+    ∙ ap (λ x. planOf (p .night .lengths) (p .night .inbound) x (r .tracks) (r .room) (r .steps)) codes
+    ∙ ap (λ r. planOf (p .night .lengths) (p .night .inbound) (p .codes) (r .tracks) (r .room) (r .steps)) (told .answer)
+
+-- What `write` wrote `read` takes back: the numbers in the answer, the items of each list at the front of its buffer.
+pub write-then-read : {lengths inbound codes : List ℕ} {tracks room steps : ℕ} {before : List ℕ} {w : Answer} {after l i c : List ℕ} {r : CardAnswer} {l₁ i₁ c₁ : List ℕ}
+    → Writes (planOf lengths inbound codes tracks room steps) before w after
+    → w .number ≡ 0
+    → Reads (take (w .a) after) l i c r l₁ i₁ c₁
+    → length lengths ≤ length l
+    → length inbound ≤ length i
+    → length codes ≤ length c
+    → Told (planOf lengths inbound codes tracks room steps) l i c r l₁ i₁ c₁
+write-then-read = written-then-read
+
+-- A card that `read` accepts is byte for byte the one that `write` makes of what was read.
+pub read-then-write : {bytes l i c : List ℕ} {r : CardAnswer} {l₁ i₁ c₁ before : List ℕ} {w : Answer} {after : List ℕ}
+    → Below 256 bytes
+    → Reads bytes l i c r l₁ i₁ c₁
+    → r .number ≡ 0
+    → Writes (planRead r l₁ i₁ c₁) before w after
+    → length bytes ≤ length before
+    → (w .number ≡ 0) × (take (w .a) after ≡ bytes)
+read-then-write small reads e writes h = read-then-written small reads e (rw (plan-read reads e) at writes) h
+
+-- So no two cards are read as one plan.
+pub one-card : {x y l i c : List ℕ} {r : CardAnswer} {l₁ i₁ c₁ k j d : List ℕ} {s : CardAnswer} {k₁ j₁ d₁ : List ℕ}
+    → Below 256 x
+    → Below 256 y
+    → Reads x l i c r l₁ i₁ c₁
+    → Reads y k j d s k₁ j₁ d₁
+    → r .number ≡ 0
+    → s .number ≡ 0
+    → planRead r l₁ i₁ c₁ ≡ planRead s k₁ j₁ d₁
+    → x ≡ y
+one-card {x} {y} {r = r} {l₁ = l₁} {i₁ = i₁} {c₁ = c₁} {s = s} {k₁ = k₁} {j₁ = j₁} {d₁ = d₁} small-x small-y reads-x reads-y rx ry same =
+    let before = x ++ y in
+    let answer : Plan → Answer = λ p. writerAnswer limits p (length before) in
+    let after : Plan → List ℕ = λ p. written (answer p) (card p) before in
+    let writes : (p : Plan) → Writes p before (answer p) (after p) = λ p. record { answer = refl; bytes = refl } in
+    let first = read-then-write small-x reads-x rx (writes (planRead r l₁ i₁ c₁)) (omega (arith, length-append x y)) in
+    let second = read-then-write small-y reads-y ry (writes (planRead s k₁ j₁ d₁)) (omega (arith, length-append x y)) in
+    sym (first .1) ∙ ap (λ p. take (answer p .a) (after p)) same ∙ second .1

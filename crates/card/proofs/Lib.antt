@@ -1,0 +1,7 @@
+-- The laws of this crate, by topic.
+pub mod Places
+pub mod Drawing
+pub mod Parts
+pub mod Reading
+pub mod Writing
+pub mod Calls

@@ -1,0 +1,160 @@
+-- Laws of bit places: a number is read from the bits at any place by the bytes that hold them, whatever its width.
+use Prim.Native.Nat.{ℕ, zero, suc, _+_, _-_, _*_, _/_, _%_, _^_, _≤_, _<_}
+use mathlib.Core.Path.{_≡_, refl, sym, ap, _∙_}
+use mathlib.Core.Bool.{Bool, true, false, _&&_}
+use mathlib.Core.List.{List, [], _∷_, _++_}
+use native.Mathlib.Nat.{zero-mul, zero-add, add-zero, suc-add, suc-mul, add-mul, mul-assoc, add-assoc, lt-of-lt-of-le, suc-ne-zero}
+use native.Mathlib.Numerals.{one-add, add-one}
+use native.Mathlib.Omega.{arith}
+use lib.Dec.{eqb}
+use lib.ListN.{length, getD, drop, set, replicate, length-drop, length-replicate, replicate-append-replicate}
+use lib.Pow.{pow-pos, pow-mono, pow-add, high, low, field}
+use lib.Seq.{drop-drop, drop-nil, drop-cons, drop-append-add, set-at, getD-drop, append-snoc}
+use borrow.Author.Tests.{eq-eqb, ne-eqb}
+use Rattle.yard.specs.Words.{every}
+use Rattle.yard.specs.Night.{sum}
+use Rattle.yard.specs.Card.{toBits, fromBits, unpacked, wholeBytes, bitsOf}
+use Rattle.yard.proofs.Bits.{Below, below-drop, fromBits-step, fromBits-toBits, fromBits-below, bitsOf-below, length-bitsOf, length-unpacked, sum-replicate}
+use Rattle.card.specs.Fields.{fieldAt, fieldsAt, endsAt}
+
+-- A number of v + w bits is one of v bits before one of w.
+pub fromBits-add : (v w : ℕ) (bits : List ℕ) → fromBits (v + w) bits ≡ fromBits v bits * 2 ^ w + fromBits w (drop v bits)
+fromBits-add zero w bits = ap (λ k. fromBits k bits) (zero-add w) ∙ sym (ap (λ k. k + fromBits w bits) (zero-mul (2 ^ w)) ∙ zero-add (fromBits w bits))
+fromBits-add (suc v) w bits =
+    let b = getD bits 0 0 in
+    let later = drop 1 bits in
+    let behind : drop v (drop 1 bits) ≡ drop (suc v) bits = drop-drop v 1 bits ∙ ap (λ k. drop k bits) (one-add v) in
+    let parts : b * 2 ^ (v + w) + fromBits v later * 2 ^ w ≡ (b * 2 ^ v + fromBits v later) * 2 ^ w =
+    ap (λ k. b * k + fromBits v later * 2 ^ w) (pow-add 2 v w)
+    ∙ ap (λ k. k + fromBits v later * 2 ^ w) (sym (mul-assoc b (2 ^ v) (2 ^ w)))
+    ∙ sym (add-mul (b * 2 ^ v) (fromBits v later) (2 ^ w)) in
+    ap (λ k. fromBits k bits) (suc-add v w)
+    ∙ fromBits-step (v + w) bits
+    ∙ ap (λ k. b * 2 ^ (v + w) + k) (fromBits-add v w later)
+    ∙ sym (add-assoc (b * 2 ^ (v + w)) (fromBits v later * 2 ^ w) (fromBits w (drop v later)))
+    ∙ ap (λ k. k + fromBits w (drop v later)) parts
+    ∙ ap (λ l. (b * 2 ^ v + fromBits v later) * 2 ^ w + fromBits w l) behind
+    ∙ ap (λ k. k * 2 ^ w + fromBits w (drop (suc v) bits)) (sym (fromBits-step v bits))
+
+-- so w bits, with v before them and u behind, are found by one division
+pub middle-bits : (v w u : ℕ) (bits : List ℕ) → Below 2 bits → fromBits (v + (w + u)) bits / 2 ^ u % 2 ^ w ≡ fromBits w (drop v bits)
+middle-bits v w u bits b =
+    let later = below-drop v bits b in
+    let last = below-drop w (drop v bits) later in
+    sym (field (fromBits (v + (w + u)) bits) w u)
+    ∙ ap (λ k. k % 2 ^ (w + u) / 2 ^ u) (fromBits-add v (w + u) bits)
+    ∙ ap (λ k. k / 2 ^ u) (low (fromBits v bits) (w + u) (fromBits-below (w + u) (drop v bits) later))
+    ∙ ap (λ k. k / 2 ^ u) (fromBits-add w u (drop v bits))
+    ∙ high (fromBits w (drop v bits)) u (fromBits-below u (drop w (drop v bits)) last)
+
+-- Bytes: the bits from a byte on are those of the bytes from there on.
+pub bitsOf-drop : (i : ℕ) (bytes : List ℕ) → drop (i * 8) (bitsOf bytes) ≡ bitsOf (drop i bytes)
+bitsOf-drop zero bytes = refl
+bitsOf-drop (suc i) [] = drop-nil (suc i * 8)
+bitsOf-drop (suc i) (b ∷ bytes) =
+    let e : suc i * 8 ≡ 8 + i * 8 = omega arith in
+    ap (λ k. drop k (bitsOf (b ∷ bytes))) e ∙ drop-append-add (toBits 8 b) (bitsOf bytes) (i * 8) ∙ bitsOf-drop i bytes
+
+first-byte : (bytes : List ℕ) → Below 256 bytes → fromBits 8 (bitsOf bytes) ≡ getD bytes 0 0
+first-byte [] small = refl
+first-byte (b ∷ bytes) small = fromBits-toBits 8 b (bitsOf bytes) (small 0)
+
+pub byte-at : (bytes : List ℕ) → Below 256 bytes → (i : ℕ) → fromBits 8 (drop (i * 8) (bitsOf bytes)) ≡ getD bytes i 0
+byte-at bytes small i =
+    ap (fromBits 8) (bitsOf-drop i bytes)
+    ∙ first-byte (drop i bytes) (below-drop i bytes small)
+    ∙ getD-drop i bytes 0 0
+    ∙ ap (λ k. getD bytes k 0) (add-zero i)
+
+-- three bytes as one number
+pub three-bytes : (bytes : List ℕ) → Below 256 bytes → (i : ℕ)
+    → fieldAt bytes (i * 8) 24 ≡ getD bytes i 0 * 65536 + getD bytes (i + 1) 0 * 256 + getD bytes (i + 2) 0
+unfolding fieldAt
+three-bytes bytes small i =
+    let bits = bitsOf bytes in
+    let next : (k : ℕ) → drop 8 (drop (k * 8) bits) ≡ drop ((k + 1) * 8) bits =
+    λ k. let e : k * 8 + 8 ≡ (k + 1) * 8 = omega arith in drop-drop 8 (k * 8) bits ∙ ap (λ n. drop n bits) e in
+    let two : i + 1 + 1 ≡ i + 2 = omega arith in
+    let second = ap (fromBits 8) (next i) ∙ byte-at bytes small (i + 1) in
+    let third =
+    ap (λ l. fromBits 8 (drop 8 l)) (next i) ∙ ap (fromBits 8) (next (i + 1)) ∙ byte-at bytes small (i + 1 + 1) ∙ ap (λ k. getD bytes k 0) two in
+    omega (arith, fromBits-add 8 16 (drop (i * 8) bits), fromBits-add 8 8 (drop 8 (drop (i * 8) bits)), byte-at bytes small i, second, third)
+
+-- the number at a place is the middle of the three bytes from the place's byte on
+pub field-in-three : (bytes : List ℕ) (at w : ℕ) → w ≤ 16 → fieldAt bytes (at / 8 * 8) 24 / 2 ^ (24 - at % 8 - w) % 2 ^ w ≡ fieldAt bytes at w
+unfolding fieldAt
+field-in-three bytes at w h =
+    let bits = bitsOf bytes in
+    let u = 24 - at % 8 - w in
+    let whole : 24 ≡ at % 8 + (w + u) = omega arith in
+    let place : at / 8 * 8 + at % 8 ≡ at = omega arith in
+    ap (λ k. fromBits k (drop (at / 8 * 8) bits) / 2 ^ u % 2 ^ w) whole
+    ∙ middle-bits (at % 8) w u (drop (at / 8 * 8) bits) (below-drop (at / 8 * 8) bits (bitsOf-below bytes))
+    ∙ ap (fromBits w) (drop-drop (at % 8) (at / 8 * 8) bits ∙ ap (λ k. drop k bits) place)
+
+pub field-below : (bytes : List ℕ) (at w : ℕ) → w ≤ 16 → fieldAt bytes at w < 65536
+unfolding fieldAt
+field-below bytes at w h = lt-of-lt-of-le (fromBits-below w (drop at (bitsOf bytes)) (below-drop at (bitsOf bytes) (bitsOf-below bytes))) (pow-mono h)
+
+-- Lists of fields: those of some widths, then those of others.
+pub unpacked-append : (ws vs bits : List ℕ) → unpacked (ws ++ vs) bits ≡ unpacked ws bits ++ unpacked vs (drop (sum ws) bits)
+unpacked-append [] vs bits = refl
+unpacked-append (w ∷ ws) vs bits =
+    ap (λ l. fromBits w bits ∷ l) (unpacked-append ws vs (drop w bits) ∙ ap (λ l. unpacked ws (drop w bits) ++ unpacked vs l) (drop-drop (sum ws) w bits))
+
+pub length-fieldsAt : (bytes : List ℕ) (at w n : ℕ) → length (fieldsAt bytes at w n) ≡ n
+unfolding fieldsAt
+length-fieldsAt bytes at w n = length-unpacked (replicate n w) (drop at (bitsOf bytes)) ∙ length-replicate n w
+
+-- one field more
+pub fieldsAt-next : (bytes : List ℕ) (at w n : ℕ) → fieldsAt bytes at w (suc n) ≡ fieldsAt bytes at w n ++ (fieldAt bytes (at + n * w) w ∷ [])
+unfolding fieldsAt fieldAt
+fieldsAt-next bytes at w n =
+    let bits = drop at (bitsOf bytes) in
+    ap (λ ws. unpacked ws bits) (sym (replicate-append-replicate n 1 w ∙ ap (λ k. replicate k w) (add-one n)))
+    ∙ unpacked-append (replicate n w) (w ∷ []) bits
+    ∙ ap (λ k. unpacked (replicate n w) bits ++ (fromBits w (drop k bits) ∷ [])) (sum-replicate n w)
+    ∙ ap (λ l. unpacked (replicate n w) bits ++ (fromBits w l ∷ [])) (drop-drop (n * w) at (bitsOf bytes))
+
+-- a buffer that holds the first fields and its old rest takes one field more
+pub fields-stored : (bytes old : List ℕ) (at w i : ℕ)
+    → i < length old
+    → set (fieldsAt bytes at w i ++ drop i old) i (fieldAt bytes (at + i * w) w) ≡ fieldsAt bytes at w (suc i) ++ drop (suc i) old
+fields-stored bytes old at w i h =
+    let x = fieldAt bytes (at + i * w) w in
+    let done = fieldsAt bytes at w i in
+    ap (λ l. set (done ++ l) i x) (drop-cons old i 0 h)
+    ∙ set-at done (getD old i 0) (drop (suc i) old) x i (length-fieldsAt bytes at w i)
+    ∙ sym (append-snoc done x (drop (suc i) old))
+    ∙ ap (λ l. l ++ drop (suc i) old) (sym (fieldsAt-next bytes at w i))
+
+-- The end: bits are all 0 exactly if their number is.
+zeros-number : (l : List ℕ) → every (λ b. eqb b 0) l ≡ eqb (fromBits (length l) l) 0
+zeros-number [] = refl
+zeros-number (zero ∷ l) = zeros-number l ∙ ap (λ k. eqb k 0) (sym (ap (λ k. k + fromBits (length l) l) (zero-mul (2 ^ length l)) ∙ zero-add (fromBits (length l) l)))
+zeros-number (suc b ∷ l) =
+    ap (λ t. t && every (λ b. eqb b 0) l) (ne-eqb (suc b) 0 (suc-ne-zero b))
+    ∙ sym (ne-eqb (suc b * 2 ^ length l + fromBits (length l) l) 0 (λ e. omega (arith, suc-mul b (2 ^ length l), pow-pos (length l))))
+
+pub ends-here : (bytes : List ℕ) (at : ℕ) → length bytes ≡ wholeBytes at → endsAt bytes at ≡ eqb (fieldAt bytes at (wholeBytes at * 8 - at)) 0
+unfolding endsAt fieldAt
+ends-here bytes at e =
+    let spare = drop at (bitsOf bytes) in
+    let long : length spare ≡ wholeBytes at * 8 - at = length-drop at (bitsOf bytes) ∙ ap (λ k. k - at) (length-bitsOf bytes ∙ ap (λ k. k * 8) e) in
+    ap (λ b. every (λ b. eqb b 0) spare && b) (eq-eqb (length bytes) (wholeBytes at) e)
+    ∙ and-true (every (λ b. eqb b 0) spare)
+    ∙ zeros-number spare
+    ∙ ap (λ k. eqb (fromBits k spare) 0) long
+  where
+    and-true : (b : Bool) → (b && true) ≡ b
+    and-true true = refl
+    and-true false = refl
+
+pub ends-elsewhere : (bytes : List ℕ) (at : ℕ) → (length bytes ≡ wholeBytes at → ⊥) → endsAt bytes at ≡ false
+unfolding endsAt
+ends-elsewhere bytes at h =
+    ap (λ b. every (λ b. eqb b 0) (drop at (bitsOf bytes)) && b) (ne-eqb (length bytes) (wholeBytes at) h) ∙ and-false (every (λ b. eqb b 0) (drop at (bitsOf bytes)))
+  where
+    and-false : (b : Bool) → (b && false) ≡ false
+    and-false true = refl
+    and-false false = refl

@@ -1,0 +1,86 @@
+-- The proof of `verdict`: the tests are made in parts, and a part that refuses is the verdict.
+use mathlib.Core.Path.{_≡_, sym, ap, _∙_}
+use native.Mathlib.Omega.{arith}
+use lib.ListN.{length}
+use denote.Ref.{now}
+use borrow.Author.Needs.{needs}
+use Rattle.yard.specs.Answers.{says, verdict}
+use Rattle.yard.specs.Card.{cardLength}
+use Rattle.card.specs.Heads.{headOf, headTests, sizeTests}
+use Rattle.card.specs.Plans.{Short}
+use Rattle.card.proofs.Reading.{head-short, bits-bounded, refused-head, refused-sizes, lists-then-end}
+use Rattle.card.proofs.reader.verdict.Statement.{statement}
+use Rattle.card.proofs.reader.verdict.Tie as tie
+
+-- the answers of the first two parts, for the card's own head
+first : (c : tie.After-head-tests)
+    → c .head-tests .result ≡ verdict (headTests (length (now (c .before .before .args .card))) (headOf (now (c .before .before .args .card)))) (says 0 0 0)
+first c = rw (c .before .before .pre) at (c .head-tests .ensures)
+
+second : (c : tie.After-size-tests)
+    → let args = c .before .before .before .before .before .args in
+    c .size-tests .result ≡ verdict (sizeTests (length (now (args .card))) (headOf (now (args .card))) (args .lengths) (args .inbound) (args .codes)) (says 0 0 0)
+second c = rw (c .before .before .before .before .before .pre) at (c .size-tests .ensures)
+
+-- the counts have passed
+short : (c : tie.Else1)
+    → let head = c .before .before .before .before .args .head in
+    Short (head .steps) (head .cars) (head .trains)
+short c =
+    let args = c .before .before .before .before .args in
+    head-short (length (now (args .card))) (args .head) (sym (ap (λ r. r .number) (c .before .before .head-tests .ensures)) ∙ c .if1 .left)
+
+returns : tie.Need-returns
+returns c =
+    let args = c .before .before .before .before .args in
+    let same = first (c .before .before) in
+    same ∙ refused-head (now (args .card)) (args .lengths) (args .inbound) (args .codes) (λ e. c .if1 .taken (ap (λ r. r .number) same ∙ e))
+
+returns-2 : tie.Need-returns-2
+returns-2 c =
+    let at-else = c .before .before .before in
+    let args = at-else .before .before .before .before .args in
+    let head = sym (ap (λ r. r .number) (first (at-else .before .before))) ∙ at-else .if1 .left in
+    let same = second (c .before .before) in
+    same ∙ refused-sizes (now (args .card)) (args .lengths) (args .inbound) (args .codes) head (λ e. c .if2 .taken (ap (λ r. r .number) same ∙ e))
+
+returns-3 : tie.Need-returns-3
+unfolding cardLength
+returns-3 c =
+    let at-else2 = c .before .before .before .before .before in
+    let at-else = at-else2 .before .before .before in
+    let start = at-else .before .before .before .before in
+    let args = start .args in
+    let head = sym (ap (λ r. r .number) (first (at-else .before .before))) ∙ at-else .if1 .left in
+    let sizes = sym (ap (λ r. r .number) (second (at-else2 .before .before))) ∙ at-else2 .if2 .left in
+    rw (
+      c .unless .ensures,
+      c .before .night-tests .ensures,
+      c .before .before .test .ensures,
+      c .before .before .before .ends .ensures,
+      c .before .before .before .before .bits .ensures,
+      start .pre,
+    )
+    (lists-then-end (now (args .card)) (args .lengths) (args .inbound) (args .codes) head sizes)
+
+ends-requires : tie.Need-ends-requires
+ends-requires c κs = omega (arith, c .bits .ensures, bits-bounded (short (c .before .before .before .before)))
+
+add-test : tie.Need-add-test
+add-test c = omega (arith, c .before .bits .ensures, bits-bounded (short (c .before .before .before .before .before)))
+
+pub verdict-spec : {M : Type 1} → statement M
+verdict-spec =
+    tie.close
+    (tie.spec
+    (λ c κs. search needs)
+    returns
+    (λ c κs. short c)
+    returns-2
+    (λ c κs. short (c .before .before .before))
+    ends-requires
+    add-test
+    (λ c κs. search needs)
+    (λ c κs. record { steps = omega arith; cars = short (c .before .before .before .before .before .before) .cars; trains = short (c .before .before .before .before .before .before) .trains })
+    (λ c κs. search needs)
+    returns-3)

@@ -1,0 +1,37 @@
+-- The proof of `write`: a plan that is accepted is drawn, and else nothing is written.
+use denote.Ref.{now}
+use borrow.Author.Needs.{needs}
+use Rattle.yard.specs.Night.{Plan}
+use Rattle.card.specs.Plans.{planOf}
+use Rattle.card.proofs.Writing.{accepted-drawable, writes-accepted, writes-refused}
+use Rattle.card.proofs.write.Statement.{statement}
+use Rattle.card.proofs.write.Tie as tie
+
+plan : tie.Start → Plan
+plan c =
+    planOf (now (c .args .lengths)) (now (c .args .inbound)) (now (c .args .codes)) (c .args .tracks) (c .args .room) (c .args .steps)
+
+draw-requires : tie.Need-draw-requires
+unfolding plan
+draw-requires c κs =
+    let at-answer = c .before .before .before in
+    let start = at-answer .before .before .before .before .before in
+    accepted-drawable (plan start) (now (start .args .card)) (at-answer .answer .ensures) (c .before .if1 .taken)
+
+returns : tie.Need-returns
+unfolding plan
+returns c =
+    let at-then = c .before .before .before .before in
+    let at-answer = at-then .before .before in
+    let start = at-answer .before .before .before .before .before in
+    writes-accepted (plan start) (now (start .args .card)) (at-answer .answer .ensures) (at-then .if1 .taken) (c .before .before .draw .ensures)
+
+returns-2 : tie.Need-returns-2
+unfolding plan
+returns-2 c =
+    let at-answer = c .before .before in
+    let start = at-answer .before .before .before .before .before in
+    writes-refused (plan start) (now (start .args .card)) (at-answer .answer .ensures) (c .if1 .left)
+
+pub write-spec : {M : Type 1} → statement M
+write-spec = tie.close (tie.spec (λ c κs. tt) draw-requires (λ c. search needs) returns returns-2)

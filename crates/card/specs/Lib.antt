@@ -1,0 +1,5 @@
+-- What the contracts of this crate cite besides the yard's written meaning.
+pub mod Fields
+pub mod Heads
+pub mod Pens
+pub mod Plans
