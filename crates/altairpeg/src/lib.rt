@@ -1,0 +1,62 @@
+// The face: every public call under one roof, under the names by which C, Rust and Python link it.
+// None asks anything of its caller, and each promise is that of the call behind it, word for word. include/altairpeg.h tells the same to C.
+use yard::Answer;
+use yard::CardAnswer;
+use yard::PriceAnswer;
+use yard::Timings;
+ghost use Rattle.yard.specs.Night.{planOf};
+ghost use Rattle.yard.specs.Calls.{Checks};
+ghost use Rattle.yard.specs.Card.{Reads, Writes};
+ghost use Rattle.yard.specs.Price.{Prices};
+
+// Check: a plan offered by anyone, accepted or refused by its replay.
+#[no_mangle]
+pub extern "C" fn altairpeg_check(
+    lengths: &[u16],
+    inbound: &[u16],
+    codes: &[u16],
+    tracks: usize,
+    room: usize,
+    steps: usize,
+) -> Answer
+    ensures { λ r. ⌜ Checks (planOf (now (lengths .entry)) (now (inbound .entry)) tracks room steps (now (codes .entry))) r ⌝ }
+{
+    plans::check(lengths, inbound, codes, tracks, room, steps)
+}
+
+// Read: a card's lengths, inbound numbers and codes into the lent buffers, and its numbers as the answer.
+#[no_mangle]
+pub extern "C" fn altairpeg_read(
+    card: &[u8],
+    lengths: &mut [u16],
+    inbound: &mut [u16],
+    codes: &mut [u16],
+) -> CardAnswer
+    ensures { λ r. ⌜ Reads (now (card .entry)) (now (lengths .entry)) (now (inbound .entry)) (now (codes .entry)) r (now (lengths .exit)) (now (inbound .exit)) (now (codes .exit)) ⌝ }
+{
+    card::read(card, lengths, inbound, codes)
+}
+
+// Write: the card of a plan into the lent buffer, and its length as the answer.
+#[no_mangle]
+pub extern "C" fn altairpeg_write(
+    lengths: &[u16],
+    inbound: &[u16],
+    codes: &[u16],
+    tracks: usize,
+    room: usize,
+    steps: usize,
+    card: &mut [u8],
+) -> Answer
+    ensures { λ r. ⌜ Writes (planOf (now (lengths .entry)) (now (inbound .entry)) tracks room steps (now (codes .entry))) (now (card .entry)) r (now (card .exit)) ⌝ }
+{
+    card::write(lengths, inbound, codes, tracks, room, steps, card)
+}
+
+// Price: steps times pull plus passes times push, as an exact double.
+#[no_mangle]
+pub extern "C" fn altairpeg_price(steps: usize, passes: usize, timings: Timings) -> PriceAnswer
+    ensures { λ r. ⌜ Prices steps passes timings r ⌝ }
+{
+    price::price(steps, passes, timings)
+}
