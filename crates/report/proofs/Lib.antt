@@ -1,0 +1,4 @@
+-- Laws that the proofs of this crate cite.
+pub mod Adding
+pub mod Numerals
+pub mod Listing
