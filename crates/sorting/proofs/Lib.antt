@@ -5,3 +5,6 @@ pub mod EarlyLeft
 pub mod Filling
 pub mod Runs
 pub mod Pairs
+pub mod Gathering
+pub mod Counted
+pub mod Standing

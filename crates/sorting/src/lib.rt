@@ -1,6 +1,7 @@
 // What a replay does, worked out from the codes: passes, pulls, the first early pull, the order at a stage.
 pub mod early;
 pub mod order;
+pub mod stage;
 
 ghost use mathlib.Core.Path.{_≡_};
 ghost use Prim.Native.Nat.{_+_, _%_, _^_, max, _≤_, _<_};
