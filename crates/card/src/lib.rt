@@ -12,6 +12,11 @@ ghost use Rattle.yard.specs.Night.{sum};
 ghost use Rattle.yard.specs.Card.{widths, cardLength, readerSays, Reads, Writes};
 ghost use Rattle.card.specs.Plans.{planOf, Short};
 
+// The bits of a card's head, and those of a length or an inbound number.
+const HEAD: usize = 39;
+
+const NUMBER: usize = 10;
+
 // The numbers at the head of a card.
 pub struct Head {
     pub edition: usize,
@@ -34,7 +39,7 @@ fn bits(steps: usize, cars: usize, trains: usize) -> usize
     requires { ⌜ Short steps cars trains ⌝ }
     ensures { λ r. ⌜ r ≡ sum (widths steps cars trains) ⌝ }
 {
-    39 + trains * 10 + cars * 10 + cars * steps
+    HEAD + trains * NUMBER + cars * NUMBER + cars * steps
 }
 
 // The length of a card in bytes.
@@ -78,10 +83,10 @@ pub fn read(card: &[u8], lengths: &mut [u16], inbound: &mut [u16], codes: &mut [
         };
         return told(verdict, none);
     }
-    let inbound_at = 39 + head.trains * 10;
-    let codes_at = inbound_at + head.cars * 10;
-    fields::fields(card, 39, 10, head.trains, lengths);
-    fields::fields(card, inbound_at, 10, head.cars, inbound);
+    let inbound_at = HEAD + head.trains * NUMBER;
+    let codes_at = inbound_at + head.cars * NUMBER;
+    fields::fields(card, HEAD, NUMBER, head.trains, lengths);
+    fields::fields(card, inbound_at, NUMBER, head.cars, inbound);
     fields::fields(card, codes_at, head.steps, head.cars, codes);
     told(verdict, head)
 }

@@ -1,5 +1,7 @@
 // The reader's tests, in document 01's order.
+use crate::HEAD;
 use crate::Head;
+use crate::NUMBER;
 use crate::fields;
 use yard::Answer;
 ghost use mathlib.Core.Path.{_≡_};
@@ -55,12 +57,12 @@ fn lists(card: &[u8], lengths: &mut [u16], inbound: &mut [u16]) -> Answer
 {
     let trains = lengths.len();
     let cars = inbound.len();
-    fields::fields(card, 39, 10, trains, lengths);
-    fields::fields(card, 39 + trains * 10, 10, cars, inbound);
+    fields::fields(card, HEAD, NUMBER, trains, lengths);
+    fields::fields(card, HEAD + trains * NUMBER, NUMBER, cars, inbound);
     intake::lists(lengths, inbound)
 }
 
-// 2 and 3: the lists on the card, tested aside.
+// 2 and 3: the lists on the card, tested in arrays of its own, so that a refused card writes nothing.
 fn night_tests(card: &[u8], cars: usize, trains: usize) -> Answer
     requires { ⌜ Short 0 cars trains ⌝ }
     ensures { λ r. ⌜ r ≡ verdict (listsOn (now (card .entry)) cars trains) (says 0 0 0) ⌝ }

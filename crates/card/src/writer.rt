@@ -1,4 +1,5 @@
 // The writer's tests, and the card drawn field by field.
+use crate::NUMBER;
 use crate::Pen;
 use crate::pens;
 use yard::Answer;
@@ -50,8 +51,8 @@ pub fn draw(
     ensures { λ _. ⌜ now (card .exit) ≡ cardOver (planOf (now (lengths .entry)) (now (inbound .entry)) (now (codes .entry)) tracks room steps) (now (card .entry)) ⌝ }
 {
     let head = head(card, steps, tracks, room, inbound.len(), lengths.len());
-    let with_lengths = pens::puts(card, head, 10, lengths);
-    let with_inbound = pens::puts(card, with_lengths, 10, inbound);
+    let with_lengths = pens::puts(card, head, NUMBER, lengths);
+    let with_inbound = pens::puts(card, with_lengths, NUMBER, inbound);
     let with_codes = pens::puts(card, with_inbound, steps, codes);
     pens::put(card, with_codes, 7, 0);
 }
