@@ -89,12 +89,12 @@ total-shift f c d (suc n) = omega (arith, ap (λ (k : ℕ). total f (upFrom k n)
 
 -- ---- F by its recursion
 
-take-F : (W k h : ℕ) → k ≤ h → sum (take k (descending W h)) + F W (h - k) ≡ F W h
+pub take-F : (W k h : ℕ) → k ≤ h → sum (take k (descending W h)) + F W (h - k) ≡ F W h
 take-F W zero h l = ap (λ (j : ℕ). 0 + F W j) (sub-zero h) ∙ zero-add (F W h)
 take-F W (suc k) zero l = absurd (omega arith)
 take-F W (suc k) (suc h) l = omega (arith, take-F W k h (omega arith), ap (λ (j : ℕ). F W j) (suc-sub-suc h k))
 
-take-F-all : (W k h : ℕ) → h < k → sum (take k (descending W h)) ≡ F W h
+pub take-F-all : (W k h : ℕ) → h < k → sum (take k (descending W h)) ≡ F W h
 take-F-all W zero h l = absurd (omega arith)
 take-F-all W (suc k) zero l = omega (arith, ap (λ (u : List ℕ). total (λ x. x) u) (take-nil {A = ℕ} k))
 take-F-all W (suc k) (suc h) l = omega (arith, take-F-all W k h (omega arith))

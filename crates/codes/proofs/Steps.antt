@@ -1,0 +1,71 @@
+-- Laws of the fewest steps: F one step on, and the values that a ring of one slot for each track still holds.
+use mathlib.Core.Path.{_≡_, refl, sym, _∙_}
+use mathlib.Core.Logic.{_⊎_, inl, inr, ⊎-elim}
+use mathlib.Core.Bool.{Bool, cond}
+use mathlib.Core.List.{List}
+use Prim.Native.Nat.{ℕ, suc, _+_, _*_, _-_, _/_, _%_, _≤_, _<_}
+use native.Mathlib.Nat.{mod-lt, mod-eq-of-lt, div-add-mod', lt-of-mul-lt-mul-right, mul-le-mul-right, add-mod-right, eq-or-lt-of-le}
+use native.Mathlib.Omega.{arith}
+use lib.Dec.{leb}
+use lib.ListN.{length, getD, set, replicate, getD-replicate}
+use lib.Seq.{getD-set-same, getD-set-other}
+use borrow.Author.Tests.{le-leb, lt-leb}
+use Rattle.yard.specs.Words.{first}
+use Rattle.yard.specs.Codes.{F, fewestSteps}
+use Rattle.yard.proofs.Numbers.{le-or-lt}
+use Rattle.yard.proofs.First.{first-hits, first-ends}
+use Rattle.yard.proofs.Counting.{take-F, take-F-all}
+
+-- the codes that a step more cannot double: those more than W steps short
+abbrev pub lost : ℕ → ℕ → ℕ
+lost W h = cond (leb W h) (F W (h - W)) 0
+
+pub F-next : (W h : ℕ) → F W (suc h) + lost W h ≡ 2 * F W h
+F-next W h = go (le-or-lt W h)
+  where
+    go : (W ≤ h) ⊎ (h < W) → F W (suc h) + lost W h ≡ 2 * F W h
+    go (inl far) = rw (le-leb W h far) (omega (arith, take-F W W h far))
+    go (inr near) = rw (lt-leb W h near) (omega (arith, take-F-all W W h near))
+
+-- ---- the ring
+
+-- slot j mod W holds what step j loses, for the W steps from h on
+abbrev pub Ring : ℕ → List ℕ → ℕ → Type 0
+Ring W ring h = (j : ℕ) → h ≤ j → j < h + W → getD ring (j % W) 0 ≡ lost W j
+
+module _ (W : ℕ) (pos : 0 < W) where
+  apart : (s l : ℕ) → s < l → l < s + W → l % W ≡ s % W → ⊥
+  apart s l m n e =
+      let q : s / W < l / W = lt-of-mul-lt-mul-right W (omega (arith, div-add-mod' s W, div-add-mod' l W)) in
+      omega (arith, div-add-mod' s W, div-add-mod' l W, mul-le-mul-right W q)
+
+  pub ring-first : (n : ℕ) → W ≤ n → Ring W (replicate n 0) 0
+  ring-first n room j l m =
+      let near : j < W = omega arith in
+      rw (mod-eq-of-lt near, lt-leb W j near) (getD-replicate n j 0 0 (omega arith))
+
+  pub ring-next : (ring : List ℕ) (h : ℕ) → W ≤ length ring → Ring W ring h → Ring W (set ring (h % W) (F W h)) (h + 1)
+  ring-next ring h room held j l m = ⊎-elim here there (le-or-lt (h + W) j)
+    where
+      here : h + W ≤ j → getD (set ring (h % W) (F W h)) (j % W) 0 ≡ lost W j
+      here far =
+          let e : j ≡ h + W = omega arith in
+          let back : h + W - W ≡ h = omega arith in
+          rw (e, add-mod-right h W, getD-set-same ring (h % W) (F W h) 0 (omega (arith, mod-lt h pos)), le-leb W (h + W) (omega arith), back) refl
+
+      there : j < h + W → getD (set ring (h % W) (F W h)) (j % W) 0 ≡ lost W j
+      there near = getD-set-other ring (h % W) (j % W) (F W h) 0 (apart h j (omega arith) near) ∙ held j (omega arith) near
+
+-- ---- the search
+
+abbrev pub enough : ℕ → ℕ → ℕ → Bool
+enough W c h = leb (suc c) (F W h)
+
+pub fewest-found : (W c h : ℕ) → h ≤ c → c < F W h → first (enough W c) (c - h) h ≡ fewestSteps W c → h ≡ fewestSteps W c
+fewest-found W c h l m e =
+    sym
+    (⊎-elim
+    (λ q. first-ends (enough W c) c h (omega arith))
+    (λ s. first-hits (enough W c) c h s (le-leb (suc c) (F W h) m))
+    (eq-or-lt-of-le l)) ∙
+    e

@@ -1,0 +1,3 @@
+-- What the contracts of this crate cite besides the yard's written meaning, and the rule of the table.
+pub mod Gap
+pub mod Front

@@ -1,0 +1,184 @@
+-- Laws of the answers: tests in parts, the plan's own tests worked out from its codes, and the outcome of derive made of both.
+use mathlib.Core.Path.{_≡_, refl, sym, ap, ap₂, _∙_}
+use mathlib.Core.Logic.{_⊎_, inl, inr}
+use mathlib.Core.Bool.{Bool, true, false, cond}
+use mathlib.Core.List.{List, [], _∷_, _++_}
+use Prim.Native.Nat.{ℕ, _+_, _≤_, _<_}
+use native.Mathlib.Nat.{le-refl}
+use native.Mathlib.Omega.{arith}
+use lib.Dec.{leb, ltb, eqb}
+use lib.ListN.{length, drop}
+use borrow.Author.Tests.{le-leb, lt-leb, leb-true}
+use Rattle.yard.specs.declared.Answer.{Answer}
+use Rattle.yard.specs.Limits.{limits}
+use Rattle.yard.specs.Words.{first}
+use Rattle.yard.specs.Night.{Night}
+use Rattle.yard.specs.Replay.{passes, pullSize, firstOverfull}
+use Rattle.yard.specs.Derived.{stepsNeeded, derivedCodes, derivedPlan}
+use Rattle.yard.specs.Answers.{says, test, verdict, written, listTest, limitTest, roomTest}
+use Rattle.yard.specs.Calls.{nightCounts, nightTests, deriveAnswer, Derives}
+use Rattle.yard.specs.Demands.{Listed}
+use Rattle.yard.proofs.Numbers.{le-or-lt}
+use Rattle.yard.proofs.First.{first-same}
+use Rattle.yard.proofs.Verdict.{Passed, verdict-append, verdict-passed, verdict-passes, verdict-refused, written-refused}
+use Rattle.yard.proofs.Tests.{count-passed, list-passed}
+use Rattle.yard.proofs.Formed.{lists-passed}
+use Rattle.yard.proofs.DerivedPlan.{derived-length, derived-sorts}
+use Rattle.yard.proofs.PlanYard.{passes-codes, pullSize-codes}
+use Rattle.intake.proofs.Tests.{last-test}
+use Rattle.sorting.specs.Sums.{named, setBelow, above, firstAbove}
+use Rattle.derive.specs.Plans.{givenTests, Given, settled, Settles, planned, Planned}
+
+-- ---- tests in parts
+
+-- tests, and then the rest: their own answer, and where it is 0 the rest
+pub tests-then : (ts : List Answer) (done : Answer) → verdict ts done ≡ verdict (verdict ts (says 0 0 0) ∷ []) done
+tests-then [] done = refl
+tests-then (t ∷ ts) done = go (eqb (t .number) 0) refl (tests-then ts done)
+  where
+    go :
+        (b : Bool) → eqb (t .number) 0 ≡ b → verdict ts done ≡ verdict (verdict ts (says 0 0 0) ∷ []) done →
+        cond b (verdict ts done) t ≡ verdict (cond b (verdict ts (says 0 0 0)) t ∷ []) done
+    go true e later = later
+    go false e later = sym (ap (λ (b : Bool). cond b done t) e)
+
+-- a refusal of the first tests is that of all
+pub first-refuses : (ts : List Answer) (done : Answer) → (verdict ts (says 0 0 0) .number ≡ 0 → ⊥) → verdict ts (says 0 0 0) ≡ verdict ts done
+first-refuses ts done h = sym (tests-then ts done ∙ verdict-refused (verdict ts (says 0 0 0)) [] done h)
+
+-- ---- the room, worked out from the codes
+
+module _ (room steps : ℕ) (derived before : List ℕ) {r : Answer} {full : ℕ} (e : full ≡ firstAbove room derived steps) where
+  pub settles-full : {cars : ℕ} → r ≡ says 6 full cars → full < steps → cars ≡ named derived full → Settles room steps derived before r before
+  settles-full {cars} says-so m q =
+      record {
+        answer = says-so ∙ (ap₂ (says 6) e (q ∙ ap (named derived) e) ∙ refused (lt-leb steps (firstAbove room derived steps) (omega arith)));
+        codes = sym (ap (λ (a : Answer). written a derived before) says-so);
+      }
+    where
+      refused : leb steps (firstAbove room derived steps) ≡ false → says 6 (firstAbove room derived steps) (named derived (firstAbove room derived steps)) ≡ settled room steps derived
+      refused f = rw f refl
+
+  pub settles-fits : {p : ℕ} {after : List ℕ} → r ≡ says 0 steps p → steps ≤ full → p ≡ length derived + setBelow steps derived → after ≡ derived ++ drop (length derived) before → Settles room steps derived before r after
+  settles-fits {p} {after} says-so m q copied =
+      record {
+        answer = says-so ∙ (ap (says 0 steps) q ∙ accepted (le-leb steps (firstAbove room derived steps) (omega arith)));
+        codes = copied ∙ sym (ap (λ (a : Answer). written a derived before) says-so);
+      }
+    where
+      accepted : leb steps (firstAbove room derived steps) ≡ true → says 0 steps (length derived + setBelow steps derived) ≡ settled room steps derived
+      accepted t = rw t refl
+
+-- the derived plan's room and passes are those worked out from its codes
+module _ (n : Night) (f : Listed (n .lengths) (n .inbound)) (pos : 0 < n .tracks) where
+  full-codes : firstOverfull (derivedPlan n) ≡ firstAbove (n .room) (derivedCodes n) (stepsNeeded n)
+  unfolding firstOverfull derivedPlan
+  full-codes =
+      let sorts = derived-sorts n f pos in
+      first-same (λ k. ltb (n .room) (pullSize (derivedPlan n) k)) (above (n .room) (derivedCodes n)) (stepsNeeded n) 0
+      (λ k l m. ap (ltb (n .room)) (pullSize-codes (derivedPlan n) f (sorts .codes) (sorts .never) k (omega arith)))
+
+  passes-derived : passes (derivedPlan n) (stepsNeeded n) ≡ length (derivedCodes n) + setBelow (stepsNeeded n) (derivedCodes n)
+  unfolding derivedPlan
+  passes-derived =
+      let sorts = derived-sorts n f pos in
+      passes-codes (derivedPlan n) f (sorts .codes) (sorts .never) (stepsNeeded n) (le-refl (stepsNeeded n)) ∙
+      ap (λ (k : ℕ). k + setBelow (stepsNeeded n) (derivedCodes n)) (sym (derived-length n f pos))
+
+  settled-derived : settled (n .room) (stepsNeeded n) (derivedCodes n) ≡ verdict (roomTest (derivedPlan n) ∷ []) (says 0 (stepsNeeded n) (passes (derivedPlan n) (stepsNeeded n)))
+  unfolding derivedPlan
+  settled-derived =
+      go (length (derivedCodes n) + setBelow steps (derivedCodes n)) (le-or-lt steps full) ∙
+      (ap (λ (k : ℕ). answerOf k (pullSize (derivedPlan n) k) (length (derivedCodes n) + setBelow steps (derivedCodes n))) (sym full-codes) ∙
+      ap (answerOf (firstOverfull (derivedPlan n)) (pullSize (derivedPlan n) (firstOverfull (derivedPlan n)))) (sym passes-derived))
+    where
+      steps : ℕ
+      steps = stepsNeeded n
+
+      full : ℕ
+      full = firstAbove (n .room) (derivedCodes n) steps
+
+      answerOf : ℕ → ℕ → ℕ → Answer
+      answerOf k cars p = verdict (test (leb steps k) (says 6 k cars) ∷ []) (says 0 steps p)
+
+      go : (p : ℕ) → (steps ≤ full) ⊎ (full < steps) → answerOf full (named (derivedCodes n) full) p ≡ answerOf full (pullSize (derivedPlan n) full) p
+      go p (inl fits) = rw (le-leb steps full fits) refl
+      go p (inr over) =
+          let sorts = derived-sorts n f pos in
+          ap (λ (k : ℕ). answerOf full k p) (sym (pullSize-codes (derivedPlan n) f (sorts .codes) (sorts .never) full over))
+
+  module _ {limit steps : ℕ} {before : List ℕ} {r : Answer} (needed : steps ≡ stepsNeeded n) where
+    pub plan-refused : r ≡ says 5 steps 0 → limit < steps → Planned n limit before r before
+    plan-refused says-so m =
+        record {
+          answer = says-so ∙ (ap (λ (k : ℕ). says 5 k 0) needed ∙ refused (lt-leb (stepsNeeded n) limit (omega arith)));
+          codes = sym (ap (λ (a : Answer). written a (derivedCodes n) before) says-so);
+        }
+      where
+        refused : leb (stepsNeeded n) limit ≡ false → says 5 (stepsNeeded n) 0 ≡ planned n limit
+        refused e = rw e refl
+
+    pub plan-settled : {derived after : List ℕ} → derived ≡ derivedCodes n → steps ≤ limit → Settles (n .room) steps derived before r after → Planned n limit before r after
+    plan-settled {derived} {after} e m s =
+        record {
+          answer = s .answer ∙ (ap₂ (settled (n .room)) needed e ∙ (settled-derived ∙ passed (le-leb (stepsNeeded n) limit (omega arith))));
+          codes = s .codes ∙ ap (λ (d : List ℕ). written r d before) e;
+        }
+      where
+        passed : leb (stepsNeeded n) limit ≡ true → verdict (roomTest (derivedPlan n) ∷ []) (says 0 (stepsNeeded n) (passes (derivedPlan n) (stepsNeeded n))) ≡ planned n limit
+        passed t = rw t refl
+
+-- ---- derive
+
+-- the tests 1 to 4: a count is refused, or else the lists and the buffer answer
+module _ (n : Night) (limit size : ℕ) {counted : Answer} (e : counted ≡ verdict (nightCounts limits n limit) (says 0 0 0)) where
+  pub given-counts : (counted .number ≡ 0 → ⊥) → counted ≡ verdict (givenTests n limit size) (says 0 0 0)
+  given-counts h =
+      e ∙
+      (first-refuses (nightCounts limits n limit) (verdict (drop 5 (givenTests n limit size)) (says 0 0 0)) (λ z. h (ap (λ (a : Answer). a .number) e ∙ z)) ∙
+      sym (verdict-append (nightCounts limits n limit) (drop 5 (givenTests n limit size)) (says 0 0 0)))
+
+  pub given-lists :
+      {r : Answer} → counted .number ≡ 0 → r ≡ verdict (verdict (nightTests n) (says 0 0 0) ∷ []) (listTest 3 (leb (length (n .inbound)) size)) →
+      r ≡ verdict (givenTests n limit size) (says 0 0 0)
+  given-lists {r} z q =
+      let buffer : Answer = listTest 3 (leb (length (n .inbound)) size) in
+      let passed = verdict-passes (nightCounts limits n limit) (says 0 0 0) .0 (ap (λ (a : Answer). a .number) (sym e) ∙ z) .0 in
+      q ∙
+      sym
+      (verdict-append (nightCounts limits n limit) (drop 5 (givenTests n limit size)) (says 0 0 0) ∙
+      (verdict-passed (nightCounts limits n limit) (verdict (drop 5 (givenTests n limit size)) (says 0 0 0)) passed ∙
+      (verdict-append (nightTests n) (buffer ∷ []) (says 0 0 0) ∙
+      (ap (verdict (nightTests n)) (last-test (leb (length (n .inbound)) size) 4 3 0 refl) ∙ tests-then (nightTests n) buffer))))
+
+module _ (n : Night) (limit : ℕ) (before : List ℕ) where
+  all-passed : verdict (givenTests n limit (length before)) (says 0 0 0) .number ≡ 0 → Passed (givenTests n limit (length before))
+  all-passed e = verdict-passes (givenTests n limit (length before)) (says 0 0 0) .0 e .0
+
+  pub given-passed : verdict (givenTests n limit (length before)) (says 0 0 0) .number ≡ 0 → Given n limit (length before)
+  given-passed e =
+      let p = all-passed e in
+      record {
+        cars = count-passed 1 1 (limits .cars) (length (n .inbound)) .0 (p .0) .1;
+        trains = count-passed 2 1 (limits .trains) (length (n .lengths)) .0 (p .1 .0) .1;
+        tracks = count-passed 3 1 (limits .tracks) (n .tracks) .0 (p .1 .1 .0);
+        steps = count-passed 5 0 (limits .steps) limit .0 (p .1 .1 .1 .1 .0) .1;
+        lists = lists-passed n .0 (p .1 .1 .1 .1 .1 .0, (p .1 .1 .1 .1 .1 .1 .0, (p .1 .1 .1 .1 .1 .1 .1 .0, tt)));
+        buffer = leb-true (length (n .inbound)) (length before) (list-passed 3 (leb (length (n .inbound)) (length before)) .0 (p .1 .1 .1 .1 .1 .1 .1 .1 .0));
+      }
+
+  in-parts : deriveAnswer limits n limit (length before) ≡ verdict (givenTests n limit (length before)) (planned n limit)
+  unfolding deriveAnswer
+  in-parts =
+      verdict-append (givenTests n limit (length before)) (limitTest (stepsNeeded n) limit ∷ roomTest (derivedPlan n) ∷ [])
+      (says 0 (stepsNeeded n) (passes (derivedPlan n) (stepsNeeded n)))
+
+  pub derive-refused : {r : Answer} → r ≡ verdict (givenTests n limit (length before)) (says 0 0 0) → (r .number ≡ 0 → ⊥) → Derives n limit before r before
+  derive-refused {r} e h =
+      let same : r ≡ deriveAnswer limits n limit (length before) = e ∙ (first-refuses (givenTests n limit (length before)) (planned n limit) (λ z. h (ap (λ (a : Answer). a .number) e ∙ z)) ∙ sym in-parts) in
+      record { answer = same; codes = sym (written-refused (deriveAnswer limits n limit (length before)) (derivedCodes n) before (λ z. h (ap (λ (a : Answer). a .number) same ∙ z))) }
+
+  pub derive-planned : {r : Answer} {after : List ℕ} → verdict (givenTests n limit (length before)) (says 0 0 0) .number ≡ 0 → Planned n limit before r after → Derives n limit before r after
+  derive-planned {r} {after} e p =
+      let same : r ≡ deriveAnswer limits n limit (length before) = p .answer ∙ sym (in-parts ∙ verdict-passed (givenTests n limit (length before)) (planned n limit) (all-passed e)) in
+      record { answer = same; codes = p .codes ∙ ap (λ (a : Answer). written a (derivedCodes n) before) same }

@@ -1,0 +1,67 @@
+-- Laws of the codes given by number of breaks: the table has the code, and the codes given are those of the derived plan.
+use mathlib.Core.Path.{_≡_, ap, _∙_}
+use mathlib.Core.List.{List, _++_, map, map-map}
+use Prim.Native.Nat.{ℕ, _+_, _-_, _≤_, _<_}
+use native.Mathlib.Nat.{sub-zero}
+use native.Mathlib.Omega.{arith}
+use lib.ListN.{length, getD, take, length-append}
+use lib.Seq.{take-at}
+use Rattle.yard.specs.Night.{Night, cars, breaksBefore, mostBreaks}
+use Rattle.yard.specs.Codes.{F, usableCodes, codeNumber, fewestSteps}
+use Rattle.yard.specs.Derived.{stepsNeeded, derivedCodes}
+use Rattle.yard.specs.Demands.{Listed}
+use Rattle.yard.proofs.Least.{F-usable}
+use Rattle.yard.proofs.DerivedPlan.{map-item, length-by-car, fewest-enough, before-most, derived-length}
+use Rattle.codes.specs.Front.{Front}
+use Rattle.codes.proofs.Front.{front-item}
+use Rattle.derive.specs.Numbers.{Numbers}
+use Rattle.derive.specs.Plans.{Below}
+
+pub table-code : (W h : ℕ) → 0 < W → {s t : List ℕ} {n : ℕ} → Front (usableCodes W h) s n t → (q : ℕ) → q < F W h → getD t q 0 ≡ codeNumber W h q
+unfolding codeNumber
+table-code W h pos f q m = front-item q (omega (arith, f .number, F-usable W h pos)) f
+
+module _ (n : Night) (f : Listed (n .lengths) (n .inbound)) (pos : 0 < n .tracks) where
+  pub steps-needed : {m steps : ℕ} {list : List ℕ} → Numbers (n .lengths) (n .inbound) m list → steps ≡ fewestSteps (n .tracks) m → steps ≡ stepsNeeded n
+  unfolding stepsNeeded
+  steps-needed k e = e ∙ ap (fewestSteps (n .tracks)) (k .most)
+
+  module _ {m steps : ℕ} {list : List ℕ} (k : Numbers (n .lengths) (n .inbound) m list) (needed : steps ≡ stepsNeeded n) where
+    number : ℕ → ℕ
+    number = breaksBefore (n .lengths) (n .inbound)
+
+    -- there is a code for each number
+    pub numbers-below : Below (F (n .tracks) steps) (take (length (n .inbound) - 0) list)
+    unfolding number stepsNeeded
+    numbers-below =
+        rw (sub-zero, k .listed)
+        record {
+          item =
+              λ i l.
+              let car : i < length (n .inbound) = omega (arith, length-by-car number (length (n .inbound))) in
+              omega (
+                arith,
+                map-item number 1 (length (n .inbound)) i car,
+                before-most n f (1 + i) (omega arith, omega arith),
+                fewest-enough (n .tracks) (mostBreaks (n .lengths) (n .inbound)) pos,
+                ap (F (n .tracks)) needed,
+              );
+        }
+
+    coded : map (codeNumber (n .tracks) steps) (take (length (n .inbound) - 0) list) ≡ derivedCodes n
+    unfolding derivedCodes number
+    coded =
+        rw (sub-zero, k .listed)
+        (map-map (codeNumber (n .tracks) steps) number (cars (length (n .inbound))) ∙
+        ap (λ (h : ℕ). map (λ car. codeNumber (n .tracks) h (number car)) (cars (length (n .inbound)))) needed)
+
+    -- the codes given stand at the front of their list
+    module _ {codes : List ℕ} (given : codes ≡ map (codeNumber (n .tracks) steps) (take (length (n .inbound) - 0) list)) where
+      sized : length codes ≡ length (n .inbound)
+      sized = ap length (given ∙ coded) ∙ derived-length n f pos
+
+      pub part-within : (rest : List ℕ) → length (n .inbound) ≤ length (codes ++ rest)
+      part-within rest = omega (arith, sized, length-append codes rest)
+
+      pub part-coded : (rest : List ℕ) → take (length (n .inbound) - 0) (codes ++ rest) ≡ derivedCodes n
+      part-coded rest = take-at codes rest (length (n .inbound) - 0) (omega (arith, sized)) ∙ (given ∙ coded)

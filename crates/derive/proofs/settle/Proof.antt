@@ -1,0 +1,24 @@
+-- The proof of `settle`.
+use denote.Ref.{now}
+use borrow.Author.Needs.{needs}
+use Rattle.derive.proofs.Answered.{settles-full, settles-fits}
+use Rattle.derive.proofs.settle.Statement.{statement}
+use Rattle.derive.proofs.settle.Tie as tie
+
+returns : tie.Need-returns
+returns c =
+    let args = c .before .before .before .before .before .before .args in
+    settles-full (args .room) (args .steps) (now (args .derived)) (now (args .codes)) (c .before .before .before .first-above .ensures) (c .answer .ensures) (c .before .before .if1 .taken) (c .before .pull .ensures)
+
+returns-2 : tie.Need-returns-2
+returns-2 c =
+    let called = c .before .before .before .before in
+    let args = called .before .before .before .before .before .before .args in
+    settles-fits (args .room) (args .steps) (now (args .derived)) (now (args .codes)) (called .before .before .before .first-above .ensures) (c .answer2 .ensures) (called .before .before .if1 .left) (c .before .passes .ensures) (called .copy .ensures)
+
+pub settle-spec : {M : Type 1} → statement M
+settle-spec =
+    tie.close
+    (tie.spec
+    (λ c κs. search needs) (λ c κs. search needs) (λ c κs. search needs) returns (λ c κs. search needs) (λ c κs. search needs)
+    (λ c κs. search needs) (λ c. search needs) returns-2)

@@ -1,0 +1,89 @@
+// Runs trial nights of document 01 through `derive`: a line for each, with the number, A, B and what then stands at the front of the lent buffer.
+// The buffer holds 77 everywhere before each call.
+ghost use Prim.Native.Nat.{_≤_};
+ghost use lib.ListN.{length};
+
+// Writes a number and a blank.
+fn told(number: usize) {
+    io::print_decimal(1, number as u64);
+    io::write_all(1, b" ");
+}
+
+// Writes the items of a list.
+fn listed(items: &[u16]) {
+    for i in 0..items.len() {
+        told(items[i] as usize);
+    }
+}
+
+// Derives a night within a limit, and writes the answer, so many items of the buffer, and the night's name.
+fn trial(
+    name: &[u8],
+    lengths: &[u16],
+    inbound: &[u16],
+    tracks: usize,
+    room: usize,
+    limit: usize,
+    shown: usize,
+)
+    requires { ⌜ shown ≤ 512 ⌝ }
+{
+    let mut codes = [77u16; 512];
+    let r = derive::derive(lengths, inbound, tracks, room, limit, &mut codes);
+    told(r.number);
+    told(r.a);
+    told(r.b);
+    io::write_all(1, b"- ");
+    listed(&codes[0..shown]);
+    io::write_all(1, name);
+    io::write_all(1, b"\n");
+}
+
+// Writes the numbers from n down to 1 to the front of a list.
+fn turned(into: &mut [u16], n: usize)
+    requires { ⌜ (n ≤ 512) ⌝ ∗ ⌜ n ≤ length (now into) ⌝ }
+{
+    for i in 0..n {
+        into[i] = (n - i) as u16;
+    }
+}
+
+// The trial of n cars that come in reversed, one train, with the limit 8.
+fn reversed(name: &[u8], n: usize, tracks: usize, shown: usize)
+    requires { ⌜ (n ≤ 512) ⌝ ∗ ⌜ shown ≤ 512 ⌝ }
+{
+    let mut inbound = [0u16; 512];
+    turned(&mut inbound, n);
+    let lengths = [n as u16];
+    trial(name, &lengths, &inbound[0..n], tracks, 512, 8, shown);
+}
+
+// The night N on so many tracks.
+fn night_n(name: &[u8], tracks: usize, room: usize, limit: usize) {
+    trial(
+        name,
+        &[6u16],
+        &[3u16, 6, 1, 5, 2, 4],
+        tracks,
+        room,
+        limit,
+        7,
+    );
+}
+
+fn main() {
+    night_n(b"1: N", 2, 512, 8);
+    night_n(b"4: N on one track", 1, 512, 8);
+    night_n(b"5: N with room for 2", 2, 2, 8);
+    night_n(b"5: N with room for 3", 2, 3, 8);
+    trial(b"7: one car", &[1u16], &[1u16], 2, 512, 8, 2);
+    trial(b"8: 2 1, two trains", &[1u16, 1], &[2u16, 1], 2, 512, 8, 3);
+    trial(b"8: 2 1, one train", &[2u16], &[2u16, 1], 2, 512, 8, 3);
+    reversed(b"9: seven reversed", 7, 2, 8);
+    reversed(b"10: eight reversed", 8, 2, 9);
+    reversed(b"10: eight reversed on three tracks", 8, 3, 9);
+    night_n(b"13: N on one track, limit 2", 1, 512, 2);
+    reversed(b"14: 257 reversed on eight tracks", 257, 8, 4);
+    reversed(b"14: 256 reversed on eight tracks", 256, 8, 10);
+    reversed(b"512 reversed on one track", 512, 1, 4);
+}
