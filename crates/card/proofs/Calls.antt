@@ -7,19 +7,18 @@ use lib.ListN.{length, take, drop, length-append}
 use lib.Seq.{take-append-seam}
 use Rattle.yard.specs.declared.Answer.{Answer}
 use Rattle.yard.specs.declared.CardAnswer.{CardAnswer}
-use Rattle.yard.specs.Night.{Plan}
+use Rattle.yard.specs.Night.{Plan, planOf}
 use Rattle.yard.specs.Limits.{limits}
 use Rattle.yard.specs.Answers.{written}
 use Rattle.yard.specs.Card.{card, cardPlan, writerAnswer, Writes, Reads}
 use Rattle.yard.proofs.Bits.{Below}
 use Rattle.yard.proofs.Card.{cardPlan-cars, cardPlan-codes}
 use Rattle.yard.proofs.CardCalls.{Told, read-told, written-then-read, read-then-written}
-use Rattle.card.specs.Plans.{planOf}
 
 -- the plan that a caller of the reader has in hand: the first items of the buffers, and the answer's numbers
 abbrev pub planRead : CardAnswer → List ℕ → List ℕ → List ℕ → Plan
 planRead r lengths inbound codes =
-    planOf (take (r .trains) lengths) (take (r .cars) inbound) (take (r .cars) codes) (r .tracks) (r .room) (r .steps)
+    planOf (take (r .trains) lengths) (take (r .cars) inbound) (r .tracks) (r .room) (r .steps) (take (r .cars) codes)
 
 -- after an acceptance that is the plan of the card
 front : (items buffer : List ℕ) (k : ℕ) (held : List ℕ) → k ≡ length items → held ≡ items ++ drop (length items) buffer → take k held ≡ items
@@ -33,20 +32,20 @@ plan-read {bytes} {l} {i} {c} {r} {l₁} {i₁} {c₁} reads e =
     let lengths = front (p .night .lengths) l (r .trains) l₁ (ap (λ r. r .trains) (told .answer)) (told .lengths) in
     let inbound = front (p .night .inbound) i (r .cars) i₁ (ap (λ r. r .cars) (told .answer)) (told .inbound) in
     let codes = front (p .codes) c (r .cars) c₁ (ap (λ r. r .cars) (told .answer) ∙ coded) (told .codes) in
-    ap (λ x. planOf x (take (r .cars) i₁) (take (r .cars) c₁) (r .tracks) (r .room) (r .steps)) lengths
-    ∙ ap (λ x. planOf (p .night .lengths) x (take (r .cars) c₁) (r .tracks) (r .room) (r .steps)) inbound
-    ∙ ap (λ x. planOf (p .night .lengths) (p .night .inbound) x (r .tracks) (r .room) (r .steps)) codes
-    ∙ ap (λ r. planOf (p .night .lengths) (p .night .inbound) (p .codes) (r .tracks) (r .room) (r .steps)) (told .answer)
+    ap (λ x. planOf x (take (r .cars) i₁) (r .tracks) (r .room) (r .steps) (take (r .cars) c₁)) lengths
+    ∙ ap (λ x. planOf (p .night .lengths) x (r .tracks) (r .room) (r .steps) (take (r .cars) c₁)) inbound
+    ∙ ap (λ x. planOf (p .night .lengths) (p .night .inbound) (r .tracks) (r .room) (r .steps) x) codes
+    ∙ ap (λ r. planOf (p .night .lengths) (p .night .inbound) (r .tracks) (r .room) (r .steps) (p .codes)) (told .answer)
 
 -- What `write` wrote `read` takes back: the numbers in the answer, the items of each list at the front of its buffer.
 pub write-then-read : {lengths inbound codes : List ℕ} {tracks room steps : ℕ} {before : List ℕ} {w : Answer} {after l i c : List ℕ} {r : CardAnswer} {l₁ i₁ c₁ : List ℕ}
-    → Writes (planOf lengths inbound codes tracks room steps) before w after
+    → Writes (planOf lengths inbound tracks room steps codes) before w after
     → w .number ≡ 0
     → Reads (take (w .a) after) l i c r l₁ i₁ c₁
     → length lengths ≤ length l
     → length inbound ≤ length i
     → length codes ≤ length c
-    → Told (planOf lengths inbound codes tracks room steps) l i c r l₁ i₁ c₁
+    → Told (planOf lengths inbound tracks room steps codes) l i c r l₁ i₁ c₁
 write-then-read = written-then-read
 
 -- A card that `read` accepts is byte for byte the one that `write` makes of what was read.

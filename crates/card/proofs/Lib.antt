@@ -1,7 +1,6 @@
 -- The laws of this crate, by topic.
 pub mod Places
 pub mod Drawing
-pub mod Parts
 pub mod Reading
 pub mod Writing
 pub mod Calls

@@ -13,8 +13,8 @@ use Rattle.yard.specs.Limits.{limits}
 use Rattle.yard.specs.Night.{sum}
 use Rattle.yard.specs.Answers.{says, test, verdict, written}
 use Rattle.yard.specs.Card.{widths, unpacked, bitsOf, cardLength, headField, cardPlan, rightLength, endsRight, readerSays, readerVerdict, readerAnswer, Reads}
-use Rattle.yard.proofs.Verdict.{verdict-passes, written-accepted, written-refused}
-use Rattle.yard.proofs.Tests.{counts-passed}
+use Rattle.yard.proofs.Verdict.{verdict-append, verdict-passes, verdict-nested, stops-all, goes-on-all, written-accepted, written-refused}
+use Rattle.yard.proofs.Tests.{Within, counts-passed}
 use Rattle.yard.proofs.Bits.{sum-replicate}
 use Rattle.yard.proofs.Card.{widths-sum, cardPlan-trains, cardPlan-cars, cardPlan-codes}
 use Rattle.yard.proofs.CardCalls.{reader-accepts}
@@ -24,7 +24,6 @@ use Rattle.card.specs.Fields.{fieldAt, fieldsAt, endsAt}
 use Rattle.card.specs.Heads.{headOf, lengthsOn, inboundOn, codesOn, headTests, sizeTests, listsOn}
 use Rattle.card.specs.Plans.{Short}
 use Rattle.card.proofs.Places.{unpacked-append, length-fieldsAt}
-use Rattle.card.proofs.Parts.{verdict-part, part-refused, part-passed, within-short}
 
 -- The longest card within the limits has 9,895 bits.
 pub bits-bounded : {h n m : ℕ} → Short h n m → sum (widths h n m) ≤ 9895
@@ -95,35 +94,38 @@ reader-parts : (bytes : List ℕ) (a b c : ℕ)
 unfolding readerVerdict headOf endsRight endsAt rightLength cardLength
 reader-parts bytes a b c = rw (plan-lengths bytes, plan-inbound bytes)
 
-module _ (bytes : List ℕ) (a b c : ℕ) where
-  pub refused-head : (verdict (headTests (length bytes) (headOf bytes)) (says 0 0 0) .number ≡ 0 → ⊥)
-      → verdict (headTests (length bytes) (headOf bytes)) (says 0 0 0) ≡ readerVerdict limits bytes a b c
+module _ (bytes : List ℕ) (a b c : ℕ) {r : Answer} (head : r ≡ verdict (headTests (length bytes) (headOf bytes)) (says 0 0 0)) where
+  pub refused-head : (r .number ≡ 0 → ⊥) → r ≡ readerVerdict limits bytes a b c
   refused-head fails =
       let h = headOf bytes in
-      sym (part-refused (headTests (length bytes) h) (sizeTests (length bytes) h a b c ++ listsAndEnd bytes h) (says 0 0 0) fails) ∙ reader-parts bytes a b c
+      stops-all (headTests (length bytes) h) (sizeTests (length bytes) h a b c ++ listsAndEnd bytes h) (says 0 0 0) r head fails ∙ reader-parts bytes a b c
 
-  module _ (head : verdict (headTests (length bytes) (headOf bytes)) (says 0 0 0) .number ≡ 0) where
-    after-head : verdict (sizeTests (length bytes) (headOf bytes) a b c ++ listsAndEnd bytes (headOf bytes)) (says 0 0 0) ≡ readerVerdict limits bytes a b c
-    after-head =
+  module _ (passed : r .number ≡ 0) {s : Answer} (sizes : s ≡ verdict (sizeTests (length bytes) (headOf bytes) a b c) (says 0 0 0)) where
+    after-head : {t : Answer} → t ≡ verdict (sizeTests (length bytes) (headOf bytes) a b c ++ listsAndEnd bytes (headOf bytes)) (says 0 0 0) → t ≡ readerVerdict limits bytes a b c
+    after-head {t} e =
         let h = headOf bytes in
-        sym (part-passed (headTests (length bytes) h) (sizeTests (length bytes) h a b c ++ listsAndEnd bytes h) (says 0 0 0) head) ∙ reader-parts bytes a b c
+        goes-on-all (headTests (length bytes) h) (sizeTests (length bytes) h a b c ++ listsAndEnd bytes h) (says 0 0 0) r head t passed e ∙ reader-parts bytes a b c
 
-    pub refused-sizes : (verdict (sizeTests (length bytes) (headOf bytes) a b c) (says 0 0 0) .number ≡ 0 → ⊥)
-        → verdict (sizeTests (length bytes) (headOf bytes) a b c) (says 0 0 0) ≡ readerVerdict limits bytes a b c
-    refused-sizes fails = sym (part-refused (sizeTests (length bytes) (headOf bytes) a b c) (listsAndEnd bytes (headOf bytes)) (says 0 0 0) fails) ∙ after-head
+    pub refused-sizes : (s .number ≡ 0 → ⊥) → s ≡ readerVerdict limits bytes a b c
+    refused-sizes fails =
+        after-head (stops-all (sizeTests (length bytes) (headOf bytes) a b c) (listsAndEnd bytes (headOf bytes)) (says 0 0 0) s sizes fails)
 
-    pub lists-then-end : verdict (sizeTests (length bytes) (headOf bytes) a b c) (says 0 0 0) .number ≡ 0
+    pub lists-then-end : s .number ≡ 0
         → verdict (verdict (listsOn bytes (headOf bytes .cars) (headOf bytes .trains)) (says 0 0 0) ∷ []) (endTest bytes (headOf bytes)) ≡ readerVerdict limits bytes a b c
-    lists-then-end sizes =
+    lists-then-end whole =
         let h = headOf bytes in
         let lists = listsOn bytes (h .cars) (h .trains) in
         let ends = endsAt bytes (sum (widths (h .steps) (h .cars) (h .trains))) in
-        ap (verdict (verdict lists (says 0 0 0) ∷ [])) (sym (last-test ends 12 (cardLength (h .steps) (h .cars) (h .trains)) 0 refl))
-        ∙ sym (verdict-part lists (endTest bytes h ∷ []) (says 0 0 0))
-        ∙ sym (part-passed (sizeTests (length bytes) h a b c) (listsAndEnd bytes h) (says 0 0 0) sizes)
-        ∙ after-head
+        let last =
+        verdict-nested lists (endTest bytes h)
+        ∙ ap (verdict lists) (sym (last-test ends 12 (cardLength (h .steps) (h .cars) (h .trains)) 0 refl))
+        ∙ sym (verdict-append lists (endTest bytes h ∷ []) (says 0 0 0)) in
+        after-head (goes-on-all (sizeTests (length bytes) h a b c) (listsAndEnd bytes h) (says 0 0 0) s sizes _ whole last)
 
 -- a head that passes is within the limits
+pub within-short : {n m W C h : ℕ} → Within limits n m W C h → Short h n m
+within-short w = record { steps = w .steps .1; cars = w .cars .1; trains = w .trains .1 }
+
 pub head-short : (size : ℕ) (h : Head) → verdict (headTests size h) (says 0 0 0) .number ≡ 0 → Short (h .steps) (h .cars) (h .trains)
 head-short size h e =
     let counts = verdict-passes (headTests size h) (says 0 0 0) .0 e .0 .1 .1 .1 in

@@ -12,7 +12,7 @@ use Rattle.yard.specs.Night.{Plan}
 use Rattle.yard.specs.Answers.{says, verdict, listTest, codeTest}
 use Rattle.yard.specs.Calls.{nightCounts, nightTests}
 use Rattle.yard.specs.Card.{headWidths, fields, packed, toBytes, cardLength, card, writerAnswer, Writes}
-use Rattle.yard.proofs.Verdict.{written-accepted, written-refused}
+use Rattle.yard.proofs.Verdict.{stops-all, goes-on-all, written-accepted, written-refused}
 use Rattle.yard.proofs.Bits.{length-packed, sum-replicate}
 use Rattle.yard.proofs.Card.{widths-sum, card-length}
 use Rattle.yard.proofs.CardCalls.{writer-accepts}
@@ -21,7 +21,7 @@ use Rattle.card.specs.declared.Pen.{Pen}
 use Rattle.card.specs.Pens.{reach, Ready, Draws}
 use Rattle.card.specs.Plans.{Short, Drawable, cardOver}
 use Rattle.card.proofs.Drawing.{packed-append}
-use Rattle.card.proofs.Parts.{part-refused, part-passed, within-short}
+use Rattle.card.proofs.Reading.{within-short}
 
 -- the bits of a list whose numbers have one width
 abbrev pub run : ℕ → List ℕ → List ℕ
@@ -82,40 +82,42 @@ module _ (p : Plan) (size : ℕ) where
       listTest 6 (leb (length (card p)) size) ∷
       []
 
-  pub refused-counts : (verdict (nightCounts limits (p .night) (p .steps)) (says 0 0 0) .number ≡ 0 → ⊥)
-      → verdict (nightCounts limits (p .night) (p .steps)) (says 0 0 0) ≡ writerAnswer limits p size
-  unfolding writerAnswer
-  refused-counts fails = sym (part-refused (nightCounts limits (p .night) (p .steps)) (nightTests (p .night) ++ last) (says 0 (length (card p)) 0) fails)
-
-  module _ (counts : verdict (nightCounts limits (p .night) (p .steps)) (says 0 0 0) .number ≡ 0) where
-    after-counts : verdict (nightTests (p .night) ++ last) (says 0 (length (card p)) 0) ≡ writerAnswer limits p size
+  module _ {r : Answer} (counts : r ≡ verdict (nightCounts limits (p .night) (p .steps)) (says 0 0 0)) where
+    pub refused-counts : (r .number ≡ 0 → ⊥) → r ≡ writerAnswer limits p size
     unfolding writerAnswer
-    after-counts = sym (part-passed (nightCounts limits (p .night) (p .steps)) (nightTests (p .night) ++ last) (says 0 (length (card p)) 0) counts)
+    refused-counts = stops-all (nightCounts limits (p .night) (p .steps)) (nightTests (p .night) ++ last) (says 0 (length (card p)) 0) r counts
 
-    -- the counts are within the limits
-    pub counts-short : Short (p .steps) (length (p .night .inbound)) (length (p .night .lengths))
-    counts-short =
-        within-short (counts-within limits (length (p .night .inbound)) (length (p .night .lengths)) (p .night .tracks) (p .night .room) (p .steps) .0 counts)
+    module _ (passed : r .number ≡ 0) where
+      -- the counts are within the limits
+      pub counts-short : Short (p .steps) (length (p .night .inbound)) (length (p .night .lengths))
+      counts-short =
+          let within = counts-within limits (length (p .night .inbound)) (length (p .night .lengths)) (p .night .tracks) (p .night .room) (p .steps) in
+          within-short (within .0 (sym (ap (λ r. r .number) counts) ∙ passed))
 
-    pub refused-lists : (verdict (nightTests (p .night)) (says 0 0 0) .number ≡ 0 → ⊥)
-        → verdict (nightTests (p .night)) (says 0 0 0) ≡ writerAnswer limits p size
-    refused-lists fails = sym (part-refused (nightTests (p .night)) last (says 0 (length (card p)) 0) fails) ∙ after-counts
+      module _ {s : Answer} (lists : s ≡ verdict (nightTests (p .night)) (says 0 0 0)) where
+        after-counts : {t : Answer} → t ≡ verdict (nightTests (p .night) ++ last) (says 0 (length (card p)) 0) → t ≡ writerAnswer limits p size
+        unfolding writerAnswer
+        after-counts {t} = goes-on-all (nightCounts limits (p .night) (p .steps)) (nightTests (p .night) ++ last) (says 0 (length (card p)) 0) r counts t passed
 
-    module _ (lists : verdict (nightTests (p .night)) (says 0 0 0) .number ≡ 0) where
-      after-lists : verdict last (says 0 (length (card p)) 0) ≡ writerAnswer limits p size
-      after-lists = sym (part-passed (nightTests (p .night)) last (says 0 (length (card p)) 0) lists) ∙ after-counts
+        pub refused-lists : (s .number ≡ 0 → ⊥) → s ≡ writerAnswer limits p size
+        refused-lists fails = after-counts (stops-all (nightTests (p .night)) last (says 0 (length (card p)) 0) s lists fails)
 
-      pub refused-coded : (length (p .codes) ≡ length (p .night .inbound) → ⊥) → says 4 3 0 ≡ writerAnswer limits p size
-      refused-coded fails = rw (ne-eqb (length (p .codes)) (length (p .night .inbound)) fails) at after-lists
+        module _ (listed : s .number ≡ 0) where
+          after-lists : {t : Answer} → t ≡ verdict last (says 0 (length (card p)) 0) → t ≡ writerAnswer limits p size
+          after-lists {t} e = after-counts (goes-on-all (nightTests (p .night)) last (says 0 (length (card p)) 0) s lists t listed e)
 
-      pub codes-then-room : length (p .codes) ≡ length (p .night .inbound)
-          → (bytes : ℕ)
-          → bytes ≡ cardLength (p .steps) (length (p .night .inbound)) (length (p .night .lengths))
-          → verdict (codeTest (p .steps) (p .codes) ∷ []) (verdict (listTest 6 (leb bytes size) ∷ []) (says 0 bytes 0)) ≡ writerAnswer limits p size
-      codes-then-room coded bytes e =
-          let long : bytes ≡ length (card p) = e ∙ sym (card-length p coded) in
-          ap (λ b. verdict (codeTest (p .steps) (p .codes) ∷ []) (verdict (listTest 6 (leb b size) ∷ []) (says 0 b 0))) long
-          ∙ rw (eq-eqb (length (p .codes)) (length (p .night .inbound)) coded) at after-lists
+          pub refused-coded : (length (p .codes) ≡ length (p .night .inbound) → ⊥) → says 4 3 0 ≡ writerAnswer limits p size
+          refused-coded fails = after-lists (rw (ne-eqb (length (p .codes)) (length (p .night .inbound)) fails))
+
+          pub codes-then-room : length (p .codes) ≡ length (p .night .inbound)
+              → (bytes : ℕ)
+              → bytes ≡ cardLength (p .steps) (length (p .night .inbound)) (length (p .night .lengths))
+              → verdict (codeTest (p .steps) (p .codes) ∷ []) (verdict (listTest 6 (leb bytes size) ∷ []) (says 0 bytes 0)) ≡ writerAnswer limits p size
+          codes-then-room coded bytes e =
+              let long : bytes ≡ length (card p) = e ∙ sym (card-length p coded) in
+              after-lists
+              (ap (λ b. verdict (codeTest (p .steps) (p .codes) ∷ []) (verdict (listTest 6 (leb b size) ∷ []) (says 0 b 0))) long
+              ∙ rw (eq-eqb (length (p .codes)) (length (p .night .inbound)) coded))
 
 -- The call: a plan that is accepted can be drawn, and the buffer after it is the card before the old rest, or as it was.
 module _ (p : Plan) (before : List ℕ) {r : Answer} (answered : r ≡ writerAnswer limits p (length before)) where

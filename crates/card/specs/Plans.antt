@@ -1,4 +1,4 @@
--- The plan of a call's inputs, and the plans that fit a card.
+-- The plans that fit a card.
 use Prim.Native.Nat.{ℕ, _≤_}
 use mathlib.Core.Path.{_≡_}
 use mathlib.Core.List.{List, _++_}
@@ -6,10 +6,6 @@ use lib.ListN.{length, drop}
 use Rattle.yard.specs.Limits.{limits}
 use Rattle.yard.specs.Night.{Plan}
 use Rattle.yard.specs.Card.{card}
-
-abbrev pub planOf : List ℕ → List ℕ → List ℕ → ℕ → ℕ → ℕ → Plan
-planOf lengths inbound codes tracks room steps =
-    record { night = record { lengths = lengths; inbound = inbound; tracks = tracks; room = room }; steps = steps; codes = codes }
 
 -- steps, cars and trains within the limits
 pub record Short (h n m : ℕ) : Type 0 where

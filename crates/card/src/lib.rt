@@ -8,9 +8,9 @@ mod reader; // reader.rt: the reader's tests
 mod writer; // writer.rt: the writer's tests, and the card drawn
 
 ghost use mathlib.Core.Path.{_≡_};
-ghost use Rattle.yard.specs.Night.{sum};
+ghost use Rattle.yard.specs.Night.{sum, planOf};
 ghost use Rattle.yard.specs.Card.{widths, cardLength, readerSays, Reads, Writes};
-ghost use Rattle.card.specs.Plans.{planOf, Short};
+ghost use Rattle.card.specs.Plans.{Short};
 
 // The bits of a card's head, and those of a length or an inbound number.
 const HEAD: usize = 39;
@@ -101,7 +101,7 @@ pub fn write(
     steps: usize,
     card: &mut [u8],
 ) -> Answer
-    ensures { λ r. ⌜ Writes (planOf (now (lengths .entry)) (now (inbound .entry)) (now (codes .entry)) tracks room steps) (now (card .entry)) r (now (card .exit)) ⌝ }
+    ensures { λ r. ⌜ Writes (planOf (now (lengths .entry)) (now (inbound .entry)) tracks room steps (now (codes .entry))) (now (card .entry)) r (now (card .exit)) ⌝ }
 {
     let answer = writer::answer(lengths, inbound, codes, tracks, room, steps, card.len());
     if answer.number == 0 {

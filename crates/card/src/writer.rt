@@ -8,8 +8,9 @@ ghost use mathlib.Core.List.{_∷_, []};
 ghost use Prim.Native.Nat.{_≤_};
 ghost use lib.ListN.{length};
 ghost use Rattle.yard.specs.Limits.{limits};
+ghost use Rattle.yard.specs.Night.{planOf};
 ghost use Rattle.yard.specs.Card.{headWidths, packed, writerAnswer};
-ghost use Rattle.card.specs.Plans.{planOf, Drawable, cardOver};
+ghost use Rattle.card.specs.Plans.{Drawable, cardOver};
 ghost use Rattle.card.specs.Pens.{fresh, Draws};
 
 // Draws the head of a card.
@@ -47,8 +48,8 @@ pub fn draw(
     steps: usize,
     card: &mut [u8],
 )
-    requires { ⌜ Drawable (planOf (now lengths) (now inbound) (now codes) tracks room steps) (length (now card)) ⌝ }
-    ensures { λ _. ⌜ now (card .exit) ≡ cardOver (planOf (now (lengths .entry)) (now (inbound .entry)) (now (codes .entry)) tracks room steps) (now (card .entry)) ⌝ }
+    requires { ⌜ Drawable (planOf (now lengths) (now inbound) tracks room steps (now codes)) (length (now card)) ⌝ }
+    ensures { λ _. ⌜ now (card .exit) ≡ cardOver (planOf (now (lengths .entry)) (now (inbound .entry)) tracks room steps (now (codes .entry))) (now (card .entry)) ⌝ }
 {
     let head = head(card, steps, tracks, room, inbound.len(), lengths.len());
     let with_lengths = pens::puts(card, head, NUMBER, lengths);
@@ -67,7 +68,7 @@ pub fn answer(
     steps: usize,
     size: usize,
 ) -> Answer
-    ensures { λ r. ⌜ r ≡ writerAnswer limits (planOf (now (lengths .entry)) (now (inbound .entry)) (now (codes .entry)) tracks room steps) size ⌝ }
+    ensures { λ r. ⌜ r ≡ writerAnswer limits (planOf (now (lengths .entry)) (now (inbound .entry)) tracks room steps (now (codes .entry))) size ⌝ }
 {
     let counts = intake::counts(inbound.len(), lengths.len(), tracks, room, steps);
     if counts.number != 0 {

@@ -1,5 +1,5 @@
 -- The tests of a plan's replay as the laws let them be worked out, from the lists alone.
-use Prim.Native.Nat.{ℕ, suc, _-_}
+use Prim.Native.Nat.{ℕ, suc, _-_, _≤_}
 use mathlib.Core.Path.{_≡_}
 use mathlib.Core.List.{List, [], _∷_, _++_, map}
 use lib.Dec.{leb, eqb}
@@ -10,12 +10,13 @@ use Rattle.yard.specs.Words.{place, first}
 use Rattle.yard.specs.Night.{nightOf, cars, trainOf}
 use Rattle.yard.specs.Answers.{says, test, listTest, codeTest}
 use Rattle.yard.specs.Calls.{nightTests}
-use Rattle.yard.specs.Demands.{Within}
+use Rattle.yard.specs.Demands.{Within, Listed}
 use Rattle.yard.proofs.EarlySearch.{firstWaiting, lowestWaiting}
 use Rattle.sorting.specs.declared.early.Early.{Early}
 use Rattle.sorting.specs.declared.early.Early.the-variants.{At, Never}
 use Rattle.sorting.specs.Sums.{named, firstAbove}
 use Rattle.sorting.specs.Pairs.{unruledAt}
+use Rattle.sorting.specs.Stages.{sortedTo, Stood}
 
 -- 2, 3 and 4: the lists of a plan
 abbrev pub givenTests : List ℕ → List ℕ → List ℕ → List Answer
@@ -51,3 +52,23 @@ pub record Counted (lengths inbound codes : List ℕ) : Type 0 where
   pub trains : Within 1 (limits .trains) (length lengths)
   pub cars : Within 1 (limits .cars) (length inbound)
   pub each : length codes ≡ length inbound
+
+-- 2, 3 and 4 with the two buffers of replay to a stage
+abbrev pub placedTests : List ℕ → List ℕ → List ℕ → ℕ → ℕ → List Answer
+placedTests lengths inbound codes on at =
+    givenTests lengths inbound codes ++ (listTest 4 (leb (length inbound) on) ∷ listTest 5 (leb (length inbound) at) ∷ [])
+
+-- what is known where each car's track and place can be written
+pub record Placeable (lengths inbound codes : List ℕ) (W h stage : ℕ) (on at : List ℕ) : Type 0 where
+  pub counted : Counted lengths inbound codes
+  pub lists : Listed lengths inbound
+  pub tracks : Within 1 16 W
+  pub upto : stage ≤ h
+  pub steps : h ≤ 16
+  pub roomOn : length inbound ≤ length on
+  pub roomAt : length inbound ≤ length at
+
+-- each car's track and place at a stage, as the order in which the cars then stand gives them
+abbrev pub Placed : List ℕ → List ℕ → List ℕ → ℕ → ℕ → ℕ → List ℕ → List ℕ → List ℕ → List ℕ → Type 0
+Placed lengths inbound codes W h stage on₀ at₀ on₁ at₁ =
+    Stood (sortedTo codes inbound stage) codes (map (trainOf lengths) (cars (length codes))) W h stage on₀ at₀ on₁ at₁

@@ -8,10 +8,10 @@ ghost use lib.ListN.{length};
 ghost use Rattle.yard.specs.Limits.{limits};
 ghost use Rattle.yard.specs.Night.{planOf};
 ghost use Rattle.yard.specs.Answers.{says, verdict};
-ghost use Rattle.yard.specs.Calls.{Checks};
+ghost use Rattle.yard.specs.Calls.{Checks, Replays};
 ghost use Rattle.yard.specs.Demands.{Listed};
 ghost use Rattle.sorting.specs.Sums.{setBelow, mostNamed};
-ghost use Rattle.plans.specs.Closed.{givenTests, waitTest, fullTest, soundTests, firstPair, pairTest, Counted};
+ghost use Rattle.plans.specs.Closed.{givenTests, waitTest, fullTest, soundTests, firstPair, pairTest, Counted, placedTests, Placeable, Placed};
 
 // 2, 3 and 4: the lists of a plan.
 pub fn given(lengths: &[u16], inbound: &[u16], codes: &[u16]) -> Answer
@@ -116,4 +116,106 @@ pub fn check(
         return replayed;
     }
     ordered(lengths, inbound, codes, steps)
+}
+
+// 2, 3 and 4: the lists of a plan, and two buffers of these sizes.
+fn placed(lengths: &[u16], inbound: &[u16], codes: &[u16], on: usize, at: usize) -> Answer
+    requires { ⌜ (length (now lengths) ≤ limits .trains) × (length (now inbound) ≤ limits .cars) ⌝ }
+    ensures { λ r. ⌜ r ≡ verdict (placedTests (now (lengths .entry)) (now (inbound .entry)) (now (codes .entry)) on at) (says 0 0 0) ⌝ }
+{
+    let listed = given(lengths, inbound, codes);
+    if listed.number != 0 {
+        return listed;
+    }
+    let tracks = intake::list(4, inbound.len() <= on);
+    if tracks.number != 0 {
+        return tracks;
+    }
+    intake::list(5, inbound.len() <= at)
+}
+
+// Each car's track and place at a stage, written into the two buffers, with two lists by car lent for the trains and the order.
+fn stand_with(
+    lengths: &[u16],
+    inbound: &[u16],
+    codes: &[u16],
+    tracks: usize,
+    steps: usize,
+    stage: usize,
+    trains: &mut [u16],
+    order: &mut [u16],
+    on: &mut [u16],
+    at: &mut [u16],
+)
+    requires { ⌜ Placeable (now lengths) (now inbound) (now codes) tracks steps stage (now on) (now at) × (length (now trains) ≡ length (now codes)) × (length (now order) ≡ length (now codes)) ⌝ }
+    ensures { λ _. ⌜ Placed (now (lengths .entry)) (now (inbound .entry)) (now (codes .entry)) tracks steps stage (now (on .entry)) (now (at .entry)) (now (on .exit)) (now (at .exit)) ⌝ }
+{
+    sorting::order::trains(lengths, codes.len(), trains);
+    sorting::stage::sort(inbound, codes, stage, order);
+    sorting::stage::stand(order, codes, trains, tracks, steps, stage, on, at);
+}
+
+// Each car's track and place at a stage, written into the two buffers.
+fn stand(
+    lengths: &[u16],
+    inbound: &[u16],
+    codes: &[u16],
+    tracks: usize,
+    steps: usize,
+    stage: usize,
+    on: &mut [u16],
+    at: &mut [u16],
+)
+    requires { ⌜ Placeable (now lengths) (now inbound) (now codes) tracks steps stage (now on) (now at) ⌝ }
+    ensures { λ _. ⌜ Placed (now (lengths .entry)) (now (inbound .entry)) (now (codes .entry)) tracks steps stage (now (on .entry)) (now (at .entry)) (now (on .exit)) (now (at .exit)) ⌝ }
+{
+    let n = codes.len();
+    let mut trains = [0u16; 512];
+    let mut order = [0u16; 512];
+    stand_with(
+        lengths,
+        inbound,
+        codes,
+        tracks,
+        steps,
+        stage,
+        &mut trains[0..n],
+        &mut order[0..n],
+        on,
+        at,
+    );
+}
+
+// Where each car of a plan stands at a stage, and the passes up to there; the buffers are written only where the replay is good.
+pub fn replay(
+    lengths: &[u16],
+    inbound: &[u16],
+    codes: &[u16],
+    tracks: usize,
+    room: usize,
+    steps: usize,
+    stage: usize,
+    on: &mut [u16],
+    at: &mut [u16],
+) -> Answer
+    ensures { λ r. ⌜ Replays (planOf (now (lengths .entry)) (now (inbound .entry)) tracks room steps (now (codes .entry))) stage (now (on .entry)) (now (at .entry)) r (now (on .exit)) (now (at .exit)) ⌝ }
+{
+    let counted = intake::counts(inbound.len(), lengths.len(), tracks, room, steps);
+    if counted.number != 0 {
+        return counted;
+    }
+    let staged = intake::in_range(6, 0, steps, stage);
+    if staged.number != 0 {
+        return staged;
+    }
+    let listed = placed(lengths, inbound, codes, on.len(), at.len());
+    if listed.number != 0 {
+        return listed;
+    }
+    let replayed = sound(codes, tracks, room, steps);
+    if replayed.number != 0 {
+        return replayed;
+    }
+    stand(lengths, inbound, codes, tracks, steps, stage, on, at);
+    intake::answer(0, sorting::passes(codes, stage), 0)
 }

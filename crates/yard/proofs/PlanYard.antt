@@ -18,9 +18,9 @@ use Rattle.yard.specs.Demands.{Within, Listed, CodesFormed, NeverEarly, 
 use Rattle.yard.proofs.Bools.{clash, not-so}
 use Rattle.yard.proofs.Numbers.{le-or-lt}
 use Rattle.yard.proofs.First.{first-found}
-use Rattle.yard.proofs.Lists.{total-same, total-alike, total-length, count-upFrom-in, upFrom-bounds, length-upFrom}
+use Rattle.yard.proofs.Lists.{count-keep, total-same, total-alike, total-length, count-upFrom-in, upFrom-bounds, length-upFrom}
 use Rattle.yard.proofs.Order.{place-among}
-use Rattle.yard.proofs.Replay.{Clean, sorted, standing-sorted}
+use Rattle.yard.proofs.Replay.{Clean, sorted, sorted-count, standing-sorted}
 use Rattle.yard.proofs.Codes.{setBits, ones-setBits, ones-code}
 use Rattle.yard.proofs.Passes.{taken-total, rolled-set}
 use Rattle.yard.proofs.Standing.{location, standing-count, standing-where, standing-once}
@@ -91,6 +91,32 @@ module _ (p : Plan) (f : Listed (p .night .lengths) (p .night .inbound)) (pos : 
   pub one-place : (s car : ℕ) → Within 1 (length (p .night .inbound)) car → getD (yardAt p s .standing (trackOf p s car)) (placeOf p s car) 0 ≡ car
   unfolding placeOf
   one-place s car w = place-holds (yardAt p s .standing (trackOf p s car)) car (omega (arith, one-track s car w))
+
+-- where no car is pulled early, a car stands on the track it is bound for, behind those of the sorted list that are bound for it too
+module _ (p : Plan) (f : Listed (p .night .lengths) (p .night .inbound)) (pos : 0 < p .night .tracks) (never : NeverEarly p) (s : ℕ) (l : s ≤ p .steps) where
+  goal : ℕ → ℕ
+  goal car = target (p .night .tracks) (p .steps) (codeOf p) (destination (p .night)) s car
+
+  standing-is : (t : ℕ) → yardAt p s .standing t ≡ keep (λ c. eqb t (target (p .night .tracks) (p .steps) (codeOf p) (destination (p .night)) s c)) (sorted (codeOf p) (p .night .inbound) s)
+  unfolding yardAt Clean
+  standing-is t = standing-sorted (p .night .tracks) (p .steps) (codeOf p) (destination (p .night)) (p .night .inbound) s l (λ k m. clean-of-never p never k (omega arith)) t
+
+  pub track-target : (car : ℕ) → Within 1 (length (p .night .inbound)) car → trackOf p s car ≡ target (p .night .tracks) (p .steps) (codeOf p) (destination (p .night)) s car
+  unfolding goal
+  track-target car w =
+      sym (no-other-track p f pos s car (goal car) w
+      (omega (
+        arith,
+        ap (λ (u : List ℕ). count car u) (standing-is (goal car)),
+        count-keep car (λ c. eqb (goal car) (goal c)) (sorted (codeOf p) (p .night .inbound) s),
+        ap (λ (b : Bool). cond b (count car (sorted (codeOf p) (p .night .inbound) s)) 0) (eq-eqb (goal car) (goal car) refl),
+        sorted-count (codeOf p) (p .night .inbound) s car,
+        came-once (p .night .lengths) (p .night .inbound) f car w,
+      )))
+
+  pub place-target : (car : ℕ) → Within 1 (length (p .night .inbound)) car → placeOf p s car ≡ place car (keep (λ c. eqb (target (p .night .tracks) (p .steps) (codeOf p) (destination (p .night)) s car) (target (p .night .tracks) (p .steps) (codeOf p) (destination (p .night)) s c)) (sorted (codeOf p) (p .night .inbound) s))
+  unfolding placeOf goal
+  place-target car w = ap (λ (t : ℕ). place car (yardAt p s .standing t)) (track-target car w) ∙ ap (λ (u : List ℕ). place car u) (standing-is (goal car))
 
 -- ---- sums over the cars
 

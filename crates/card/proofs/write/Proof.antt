@@ -1,15 +1,14 @@
 -- The proof of `write`: a plan that is accepted is drawn, and else nothing is written.
 use denote.Ref.{now}
 use borrow.Author.Needs.{needs}
-use Rattle.yard.specs.Night.{Plan}
-use Rattle.card.specs.Plans.{planOf}
+use Rattle.yard.specs.Night.{Plan, planOf}
 use Rattle.card.proofs.Writing.{accepted-drawable, writes-accepted, writes-refused}
 use Rattle.card.proofs.write.Statement.{statement}
 use Rattle.card.proofs.write.Tie as tie
 
 plan : tie.Start → Plan
 plan c =
-    planOf (now (c .args .lengths)) (now (c .args .inbound)) (now (c .args .codes)) (c .args .tracks) (c .args .room) (c .args .steps)
+    planOf (now (c .args .lengths)) (now (c .args .inbound)) (c .args .tracks) (c .args .room) (c .args .steps) (now (c .args .codes))
 
 draw-requires : tie.Need-draw-requires
 unfolding plan

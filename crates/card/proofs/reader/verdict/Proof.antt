@@ -33,16 +33,13 @@ short c =
 returns : tie.Need-returns
 returns c =
     let args = c .before .before .before .before .args in
-    let same = first (c .before .before) in
-    same ∙ refused-head (now (args .card)) (args .lengths) (args .inbound) (args .codes) (λ e. c .if1 .taken (ap (λ r. r .number) same ∙ e))
+    refused-head (now (args .card)) (args .lengths) (args .inbound) (args .codes) (first (c .before .before)) (c .if1 .taken)
 
 returns-2 : tie.Need-returns-2
 returns-2 c =
     let at-else = c .before .before .before in
     let args = at-else .before .before .before .before .args in
-    let head = sym (ap (λ r. r .number) (first (at-else .before .before))) ∙ at-else .if1 .left in
-    let same = second (c .before .before) in
-    same ∙ refused-sizes (now (args .card)) (args .lengths) (args .inbound) (args .codes) head (λ e. c .if2 .taken (ap (λ r. r .number) same ∙ e))
+    refused-sizes (now (args .card)) (args .lengths) (args .inbound) (args .codes) (first (at-else .before .before)) (at-else .if1 .left) (second (c .before .before)) (c .if2 .taken)
 
 returns-3 : tie.Need-returns-3
 unfolding cardLength
@@ -51,17 +48,8 @@ returns-3 c =
     let at-else = at-else2 .before .before .before in
     let start = at-else .before .before .before .before in
     let args = start .args in
-    let head = sym (ap (λ r. r .number) (first (at-else .before .before))) ∙ at-else .if1 .left in
-    let sizes = sym (ap (λ r. r .number) (second (at-else2 .before .before))) ∙ at-else2 .if2 .left in
-    rw (
-      c .unless .ensures,
-      c .before .night-tests .ensures,
-      c .before .before .test .ensures,
-      c .before .before .before .ends .ensures,
-      c .before .before .before .before .bits .ensures,
-      start .pre,
-    )
-    (lists-then-end (now (args .card)) (args .lengths) (args .inbound) (args .codes) head sizes)
+    rw (c .unless .ensures, c .before .night-tests .ensures, c .before .before .test .ensures, c .before .before .before .ends .ensures, c .before .before .before .before .bits .ensures, start .pre)
+    (lists-then-end (now (args .card)) (args .lengths) (args .inbound) (args .codes) (first (at-else .before .before)) (at-else .if1 .left) (second (at-else2 .before .before)) (at-else2 .if2 .left))
 
 ends-requires : tie.Need-ends-requires
 ends-requires c κs = omega (arith, c .bits .ensures, bits-bounded (short (c .before .before .before .before)))

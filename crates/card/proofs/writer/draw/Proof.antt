@@ -5,8 +5,8 @@ use native.Mathlib.Omega.{arith}
 use lib.ListN.{length}
 use denote.Ref.{now}
 use borrow.Author.Needs.{needs}
+use Rattle.yard.specs.Night.{planOf}
 use Rattle.card.specs.Pens.{reach}
-use Rattle.card.specs.Plans.{planOf}
 use Rattle.card.proofs.Drawing.{draws-then, draws-whole}
 use Rattle.card.proofs.Writing.{run-size, cardBits, card-bits, drawable-bits, cardBits-room, ready-after}
 use Rattle.card.proofs.writer.draw.Statement.{statement}
@@ -71,7 +71,7 @@ returns c =
     let head = lengths .before .before .before .before in
     let start = head .before .before .before .before .before .before in
     let args = start .args in
-    let p = planOf (now (args .lengths)) (now (args .inbound)) (now (args .codes)) (args .tracks) (args .room) (args .steps) in
+    let p = planOf (now (args .lengths)) (now (args .inbound)) (args .tracks) (args .room) (args .steps) (now (args .codes)) in
     let all = draws-then (draws-then (draws-then (draws-then (head .head .ensures) (lengths .puts .ensures)) (inbound .puts2 .ensures)) (codes .puts3 .ensures)) (zeros .put .ensures) in
     let same : length (zeros .put .last .0) ≡ length (now (args .card)) =
     zeros .put .kept .0 ∙ codes .puts3 .kept .0 ∙ inbound .puts2 .kept .0 ∙ lengths .puts .kept .0 ∙ head .head .kept .0 in

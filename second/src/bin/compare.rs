@@ -1,0 +1,106 @@
+//! Compares the library with the reference, call by call, on nights made from a seed.
+//!
+//! `compare --seed N --count M` runs M trials; `--first K` begins at trial K, so that the
+//! trial in which a call failed can be run again alone.
+
+use second::arguments::Arguments;
+use second::idiomatic::Idiomatic;
+use second::library::Library;
+use second::random::Random;
+use second::tally::Tally;
+use second::trials::{paper_nights, small_nights, table_trial, trial, Bench};
+use second::Calls;
+use std::env;
+use std::process::ExitCode;
+use std::time::Instant;
+
+/// Orders of up to four cars are run through in full.
+const SMALL_CARS: u16 = 4;
+
+#[derive(Clone, Copy)]
+struct Run {
+    seed: u64,
+    /// Given only to run a trial again, and then not all answers need be reached.
+    first: Option<u64>,
+    count: u64,
+}
+
+fn main() -> ExitCode {
+    let run = match run_asked_for(env::args().skip(1)) {
+        Ok(run) => run,
+        Err(fault) => {
+            eprintln!("{fault}");
+            return ExitCode::from(2);
+        }
+    };
+    match compare_all(run) {
+        Ok(()) => ExitCode::SUCCESS,
+        Err(difference) => {
+            println!("{difference}");
+            ExitCode::FAILURE
+        }
+    }
+}
+
+fn run_asked_for(given: impl Iterator<Item = String>) -> Result<Run, String> {
+    let arguments = Arguments::take(&["--seed", "--count", "--first"], given)?;
+    Ok(Run {
+        seed: arguments.number("--seed")?.unwrap_or(1),
+        first: arguments.number("--first")?,
+        count: arguments.number("--count")?.unwrap_or(250_000),
+    })
+}
+
+/// The idiomatic calls in a quick pass, then the library in full, then what was reached.
+fn compare_all(run: Run) -> Result<(), String> {
+    let quick = Run {
+        count: run.count / 20,
+        ..run
+    };
+    compare::<Idiomatic>(quick, &mut Tally::default())?;
+    let mut tally = Tally::default();
+    compare::<Library>(run, &mut tally)?;
+    print!("{}", tally.table());
+    println!("{} calls, no difference (seed {})", tally.total(), run.seed);
+    let missing = tally.never_reached();
+    if missing.is_empty() || run.first.is_some() {
+        return Ok(());
+    }
+    let mut report = String::from("never reached:");
+    for (call, number, detail) in missing {
+        report += &format!("\n{call:?} {number} A {detail}");
+    }
+    Err(report)
+}
+
+fn compare<C: Calls>(run: Run, tally: &mut Tally) -> Result<(), String> {
+    let began = Instant::now();
+    table_trial::<C>(tally)?;
+    paper_nights::<C>(tally)?;
+    small_nights::<C>(tally, SMALL_CARS)?;
+    report_progress::<C>("small nights", tally, began);
+    let every = (run.count / 10).max(1);
+    for number in 0..run.count {
+        one_trial::<C>(run.seed, run.first.unwrap_or(0) + number, tally)?;
+        if (number + 1) % every == 0 {
+            report_progress::<C>(&format!("{} trials", number + 1), tally, began);
+        }
+    }
+    Ok(())
+}
+
+fn one_trial<C: Calls>(seed: u64, number: u64, tally: &mut Tally) -> Result<(), String> {
+    let mut random = Random::new(seed, number);
+    let mut bench = Bench {
+        random: &mut random,
+        tally,
+    };
+    trial::<C>(&mut bench).map_err(|found| {
+        format!("seed {seed}, trial {number} (--first {number} --count 1)\n{found}")
+    })
+}
+
+fn report_progress<C: Calls>(done: &str, tally: &Tally, began: Instant) {
+    let (calls, seconds) = (tally.total(), began.elapsed().as_secs());
+    eprintln!("{}: {done}, {calls} calls, {seconds} s", C::NAME);
+}

@@ -1,0 +1,171 @@
+//! Measures the library beside the idiomatic calls, in one run and on the same nights.
+
+use second::answers::{Answer, CardAnswer};
+use second::idiomatic::Idiomatic;
+use second::library::Library;
+use second::nights::{derived_plan, night_of, whole_card, OwnNight, OwnPlan};
+use second::random::Random;
+use second::reference;
+use second::Calls;
+use std::hint::black_box;
+use std::time::{Duration, Instant};
+
+const SIZES: [usize; 3] = [8, 64, 512];
+/// Different nights for each size, so that no branch is learnt by heart.
+const NIGHTS: usize = 128;
+/// Each call is timed in many short rounds; the quickest counts, the others were disturbed.
+const ROUNDS: usize = 60;
+const ROUND: Duration = Duration::from_millis(5);
+
+/// One night with all that the calls read and write.
+struct Work {
+    plan: OwnPlan,
+    stage: usize,
+    card: Vec<u8>,
+    lengths: Vec<u16>,
+    inbound: Vec<u16>,
+    codes: Vec<u16>,
+    on: Vec<u16>,
+    at: Vec<u16>,
+    bytes: Vec<u8>,
+}
+
+impl Work {
+    /// A night whose derived plan keeps to eight steps, so that every call is done.
+    fn any(random: &mut Random, cars: usize) -> Work {
+        let mut plan = any_accepted(random, cars);
+        while reference::check(plan.lend()).is_err() {
+            plan = any_accepted(random, cars);
+        }
+        Work {
+            stage: random.within(0..=plan.steps),
+            card: whole_card(&plan),
+            lengths: vec![0; 64],
+            inbound: vec![0; cars],
+            codes: vec![0; cars],
+            on: vec![0; cars],
+            at: vec![0; cars],
+            bytes: vec![0; 1237],
+            plan,
+        }
+    }
+}
+
+/// A plan on three to eight tracks for a night of a few trains.
+fn any_accepted(random: &mut Random, cars: usize) -> OwnPlan {
+    let trains = random.within(1..=8);
+    let night = OwnNight {
+        tracks: random.within(3..=8),
+        ..night_of(random, cars, trains)
+    };
+    derived_plan(&night)
+}
+
+/// The calls in the order of the table.
+const CALLS: [&str; 5] = ["derive", "check", "replay", "read", "write"];
+
+#[inline(never)]
+fn call<C: Calls>(name: usize, work: &mut Work) {
+    let plan = black_box(work.plan.lend());
+    match name {
+        0 => done(C::derive(plan.night, 8, &mut work.codes)),
+        1 => done(C::check(plan)),
+        2 => done(C::replay(plan, work.stage, &mut work.on, &mut work.at)),
+        3 => read(C::read(
+            black_box(&work.card),
+            &mut work.lengths,
+            &mut work.inbound,
+            &mut work.codes,
+        )),
+        _ => done(C::write(plan, &mut work.bytes)),
+    }
+}
+
+/// A refusal would be measured as speed, so it stops the run.
+fn done(answer: Answer) {
+    assert_eq!(black_box(answer).number, 0, "{answer:?}");
+}
+
+fn read(answer: CardAnswer) {
+    assert_eq!(black_box(answer).number, 0, "{answer:?}");
+}
+
+/// Seconds for all nights once, by the quickest round.
+struct Times {
+    library: f64,
+    idiomatic: f64,
+}
+
+/// The rounds of both alternate, so that a busy machine disturbs both alike.
+fn times(name: usize, works: &mut [Work]) -> Times {
+    let mut best = Times {
+        library: f64::INFINITY,
+        idiomatic: f64::INFINITY,
+    };
+    for _ in 0..ROUNDS {
+        best.library = best.library.min(round::<Library>(name, works));
+        best.idiomatic = best.idiomatic.min(round::<Idiomatic>(name, works));
+    }
+    best
+}
+
+/// Seconds for all nights once, on average over one round.
+fn round<C: Calls>(name: usize, works: &mut [Work]) -> f64 {
+    let began = Instant::now();
+    let mut turns = 0;
+    while began.elapsed() < ROUND {
+        for work in works.iter_mut() {
+            call::<C>(name, work);
+        }
+        turns += 1;
+    }
+    began.elapsed().as_secs_f64() / f64::from(turns)
+}
+
+fn row(name: usize, cars: usize, times: &Times) -> String {
+    let nights = NIGHTS as f64;
+    let a_car = |seconds: f64| seconds * 1e9 / nights / cars as f64;
+    format!(
+        "| {} | {cars} | {:.0} | {:.0} | {:.2} | {:.2} | {:.2} |",
+        CALLS[name],
+        nights / times.library,
+        nights / times.idiomatic,
+        a_car(times.library),
+        a_car(times.idiomatic),
+        times.library / times.idiomatic
+    )
+}
+
+fn main() {
+    let mut random = Random::new(1, 0);
+    let mut by_size = Vec::new();
+    for cars in SIZES {
+        let works: Vec<Work> = (0..NIGHTS).map(|_| Work::any(&mut random, cars)).collect();
+        by_size.push((cars, works));
+    }
+    println!("{NIGHTS} nights of each size, the quickest of {ROUNDS} rounds.\n");
+    println!("| call | cars | library nights/s | idiomatic nights/s | library ns/car | idiomatic ns/car | library/idiomatic |");
+    println!("|---|---|---|---|---|---|---|");
+    let mut growth = Vec::new();
+    for name in 0..CALLS.len() {
+        let mut all = Vec::new();
+        for (cars, works) in &mut by_size {
+            let measured = times(name, works);
+            println!("{}", row(name, *cars, &measured));
+            all.push(measured);
+        }
+        growth.push((name, all));
+    }
+    print_growth(&growth);
+}
+
+/// How the cost of a night grows with eight times the cars; 8 is growth in step with them.
+fn print_growth(growth: &[(usize, Vec<Times>)]) {
+    println!("\n| call | library, 64 to 512 cars | idiomatic, 64 to 512 cars |");
+    println!("|---|---|---|");
+    for (name, all) in growth {
+        let library = all[2].library / all[1].library;
+        let idiomatic = all[2].idiomatic / all[1].idiomatic;
+        println!("| {} | {library:.1} | {idiomatic:.1} |", CALLS[*name]);
+    }
+}

@@ -1,0 +1,50 @@
+//! The second, independent program: every night is replayed car by car on real lists,
+//! so that no table, closed form or shortcut is shared with the library it is compared with.
+
+pub mod answers;
+pub mod arguments;
+pub mod bits;
+pub mod harness;
+pub mod idiomatic;
+#[cfg(feature = "library")]
+pub mod library;
+pub mod nights;
+pub mod programs;
+pub mod random;
+pub mod reference;
+pub mod steps;
+pub mod tally;
+pub mod trials;
+pub mod yard;
+
+use answers::{Answer, CardAnswer, PriceAnswer, Timings};
+
+/// A night as a caller gives it; nothing about it is tested yet.
+#[derive(Clone, Copy, Debug)]
+pub struct Night<'a> {
+    pub lengths: &'a [u16],
+    pub inbound: &'a [u16],
+    pub tracks: usize,
+    pub room: usize,
+}
+
+/// A plan as a caller gives it; nothing about it is tested yet.
+#[derive(Clone, Copy, Debug)]
+pub struct Plan<'a> {
+    pub night: Night<'a>,
+    pub steps: usize,
+    pub codes: &'a [u16],
+}
+
+/// The calls as the library offers them, so that one harness drives every implementation.
+pub trait Calls {
+    const NAME: &'static str;
+    fn derive(night: Night, limit: usize, codes: &mut [u16]) -> Answer;
+    fn check(plan: Plan) -> Answer;
+    fn replay(plan: Plan, stage: usize, on: &mut [u16], at: &mut [u16]) -> Answer;
+    fn read(card: &[u8], lengths: &mut [u16], inbound: &mut [u16], codes: &mut [u16])
+        -> CardAnswer;
+    fn write(plan: Plan, card: &mut [u8]) -> Answer;
+    fn price(steps: usize, passes: usize, timings: Timings) -> PriceAnswer;
+    fn fewest_tracks(code: u8) -> usize;
+}

@@ -1,0 +1,648 @@
+//! Nights, plans, cards and timings, sound ones and damaged ones, from a seed.
+
+use crate::answers::Timings;
+use crate::bits::Packer;
+use crate::random::Random;
+use crate::reference::{derive, write};
+use crate::steps::{breaks_before, kept_codes, two_to};
+use crate::yard::{place_of, Replay};
+use crate::{Night, Plan};
+
+/// A night that owns its lists.
+#[derive(Clone, Debug)]
+pub struct OwnNight {
+    pub lengths: Vec<u16>,
+    pub inbound: Vec<u16>,
+    pub tracks: usize,
+    pub room: usize,
+}
+
+/// A plan that owns its lists.
+#[derive(Clone, Debug)]
+pub struct OwnPlan {
+    pub night: OwnNight,
+    pub steps: usize,
+    pub codes: Vec<u16>,
+}
+
+impl OwnNight {
+    pub fn lend(&self) -> Night<'_> {
+        Night {
+            lengths: &self.lengths,
+            inbound: &self.inbound,
+            tracks: self.tracks,
+            room: self.room,
+        }
+    }
+}
+
+impl OwnPlan {
+    pub fn lend(&self) -> Plan<'_> {
+        Plan {
+            night: self.night.lend(),
+            steps: self.steps,
+            codes: &self.codes,
+        }
+    }
+}
+
+/// A sound night of 1 to 512 cars; most are short, since faults show there as well.
+pub fn any_night(random: &mut Random) -> OwnNight {
+    if random.chance(5) {
+        return heavy_night(random);
+    }
+    let cars = any_count(random);
+    let trains = any_trains(random, cars);
+    let mut night = night_of(random, cars, trains);
+    if random.chance(30) {
+        night.room = random.within(1..=cars);
+    }
+    night
+}
+
+/// One train in which most cars share a code with one set bit, so that the step of this
+/// bit pulls the most cars, however late it comes.
+fn heavy_night(random: &mut Random) -> OwnNight {
+    let step = random.below(8);
+    let tracks = random.within(step + 1..=8);
+    let usable = kept_codes(tracks, 8);
+    let number = place_of(usable, two_to(step));
+    let blocks = random.within(number + 1..=number + 10);
+    let cars = random.within(2 * blocks..=512);
+    let mut lengths = vec![1; blocks];
+    lengths[number] += (cars - blocks) as u16;
+    let sorted: Vec<u16> = (1..=cars as u16).collect();
+    OwnNight {
+        lengths: vec![cars as u16],
+        inbound: last_block_first(&sorted, &lengths),
+        tracks,
+        room: 512,
+    }
+}
+
+fn any_count(random: &mut Random) -> usize {
+    match random.below(100) {
+        0..=44 => random.within(1..=8),
+        45..=79 => random.within(9..=64),
+        80..=97 => random.within(65..=512),
+        _ => 512,
+    }
+}
+
+fn any_trains(random: &mut Random, cars: usize) -> usize {
+    let most = cars.min(64);
+    match random.below(10) {
+        0..=3 => 1,
+        4..=6 => random.within(1..=most.min(4)),
+        7..=8 => random.within(1..=most),
+        _ => most,
+    }
+}
+
+/// A sound night with these counts, any number of tracks and room for all cars.
+pub fn night_of(random: &mut Random, cars: usize, trains: usize) -> OwnNight {
+    OwnNight {
+        lengths: any_lengths(random, cars, trains),
+        inbound: any_inbound(random, cars),
+        tracks: random.within(1..=8),
+        room: 512,
+    }
+}
+
+/// The cars cut into trains at places of their own.
+fn any_lengths(random: &mut Random, cars: usize, trains: usize) -> Vec<u16> {
+    let mut cuts: Vec<usize> = (1..cars).collect();
+    random.shuffle(&mut cuts);
+    cuts.truncate(trains - 1);
+    cuts.sort_unstable();
+    cuts.push(cars);
+    let mut last_cut = 0;
+    let mut lengths = Vec::new();
+    for cut in cuts {
+        lengths.push((cut - last_cut) as u16);
+        last_cut = cut;
+    }
+    lengths
+}
+
+fn any_inbound(random: &mut Random, cars: usize) -> Vec<u16> {
+    let sorted: Vec<u16> = (1..=cars as u16).collect();
+    match random.below(10) {
+        0 => sorted,
+        1 => sorted.into_iter().rev().collect(),
+        2..=3 => shuffled(random, sorted),
+        4..=6 => runs(random, sorted),
+        7 => swapped(random, sorted),
+        _ => blocks_reversed(random, &sorted),
+    }
+}
+
+fn shuffled(random: &mut Random, mut cars: Vec<u16>) -> Vec<u16> {
+    random.shuffle(&mut cars);
+    cars
+}
+
+/// Presorted as inbound trains are: a few runs, each in order, one behind the other.
+pub fn runs(random: &mut Random, cars: Vec<u16>) -> Vec<u16> {
+    let count = random.within(2..=12);
+    let mut runs = vec![Vec::new(); count];
+    for car in cars {
+        runs[random.below(count)].push(car);
+    }
+    runs.concat()
+}
+
+/// In order but for a few pairs that changed places.
+fn swapped(random: &mut Random, mut cars: Vec<u16>) -> Vec<u16> {
+    for _ in 0..random.within(1..=4) {
+        let (one, other) = (random.below(cars.len()), random.below(cars.len()));
+        cars.swap(one, other);
+    }
+    cars
+}
+
+/// Blocks of neighbouring cars, the last block in front, so that breaks are many and known.
+fn blocks_reversed(random: &mut Random, cars: &[u16]) -> Vec<u16> {
+    let count = random.within(1..=cars.len().min(300));
+    let lengths = any_lengths(random, cars.len(), count);
+    last_block_first(cars, &lengths)
+}
+
+fn last_block_first(cars: &[u16], lengths: &[u16]) -> Vec<u16> {
+    let mut inbound = Vec::new();
+    let mut end = cars.len();
+    for &length in lengths.iter().rev() {
+        let start = end - usize::from(length);
+        inbound.extend(&cars[start..end]);
+        end = start;
+    }
+    inbound
+}
+
+/// A plan for a sound night: derived, raised, strewn or random, before any damage.
+pub fn any_plan(random: &mut Random, night: &OwnNight) -> OwnPlan {
+    let mut plan = match random.below(20) {
+        0..=7 => derived_plan(night),
+        8..=11 => rising_plan(random, night),
+        12..=13 => more_steps(random, derived_plan(night)),
+        14..=15 => usable_plan(random, night),
+        16..=17 => flipped_plan(random, night),
+        18 => gapped_plan(random, night),
+        _ => random_plan(random, night),
+    };
+    if random.chance(40) {
+        plan.night.room = tight_room(random, &plan);
+    }
+    plan
+}
+
+/// The derived plan, or one of all zeros where no eight steps are enough.
+pub fn derived_plan(night: &OwnNight) -> OwnPlan {
+    let ample = Night {
+        room: 512,
+        ..night.lend()
+    };
+    let cars = night.inbound.len();
+    let (steps, codes) = match derive(ample, 8, cars) {
+        Ok(derived) => (derived.steps, derived.codes),
+        Err(_) => (8, vec![0; cars]),
+    };
+    OwnPlan {
+        night: night.clone(),
+        steps,
+        codes,
+    }
+}
+
+/// A plan that builds the trains with other codes than the derived one, if enough are there.
+fn rising_plan(random: &mut Random, night: &OwnNight) -> OwnPlan {
+    let mut plan = more_steps(random, derived_plan(night));
+    let usable = kept_codes(night.tracks, plan.steps);
+    let breaks = breaks_before(night.lend());
+    let most_breaks = breaks.iter().copied().max().unwrap_or(0);
+    if most_breaks < usable.len() {
+        let spare = usable.len() - 1 - most_breaks;
+        let mut car = 0;
+        for &length in &night.lengths {
+            let mut lifted = random.below(spare + 1);
+            for _ in 0..length {
+                plan.codes[car] = usable[breaks[car] + lifted];
+                lifted = random.within(lifted..=spare.min(lifted + 1));
+                car += 1;
+            }
+        }
+    }
+    plan
+}
+
+/// The same codes with more steps, in which no car is pulled.
+fn more_steps(random: &mut Random, mut plan: OwnPlan) -> OwnPlan {
+    plan.steps = random.within(plan.steps..=8);
+    plan
+}
+
+fn usable_plan(random: &mut Random, night: &OwnNight) -> OwnPlan {
+    let steps = random.within(0..=8);
+    let usable = kept_codes(night.tracks, steps);
+    plan_with(night, steps, || random.pick(usable))
+}
+
+/// Usable codes, but for a few in which bits are turned over.
+fn flipped_plan(random: &mut Random, night: &OwnNight) -> OwnPlan {
+    let mut plan = usable_plan(random, night);
+    for _ in 0..random.within(1..=3) {
+        let car = random.below(plan.codes.len());
+        plan.codes[car] ^= random.below(1 << plan.steps) as u16;
+    }
+    plan
+}
+
+/// Usable codes on few tracks, but for one with a gap that a late step falls into.
+fn gapped_plan(random: &mut Random, night: &OwnNight) -> OwnPlan {
+    let steps = random.within(6..=8);
+    let tracks = random.within(1..=3);
+    let night = OwnNight {
+        tracks,
+        ..night.clone()
+    };
+    let usable = kept_codes(tracks, steps);
+    let mut plan = plan_with(&night, steps, || random.pick(usable));
+    let car = random.below(plan.codes.len());
+    plan.codes[car] = late_gap(random, tracks, steps);
+    plan
+}
+
+/// All bits but W neighbouring ones; the step of the lowest of these takes the car early.
+fn late_gap(random: &mut Random, tracks: usize, steps: usize) -> u16 {
+    let gap = (two_to(tracks) - 1) << random.below(steps - tracks);
+    (two_to(steps) - 1) & !gap
+}
+
+fn random_plan(random: &mut Random, night: &OwnNight) -> OwnPlan {
+    let steps = random.within(0..=8);
+    plan_with(night, steps, || random.below(1 << steps) as u16)
+}
+
+fn plan_with(night: &OwnNight, steps: usize, code: impl FnMut() -> u16) -> OwnPlan {
+    let codes = std::iter::repeat_with(code).take(night.inbound.len());
+    OwnPlan {
+        night: night.clone(),
+        steps,
+        codes: codes.collect(),
+    }
+}
+
+/// A room within one car of what some step pulls, so that refusal 6 is just met or missed.
+pub fn tight_room(random: &mut Random, plan: &OwnPlan) -> usize {
+    let pulls = Replay::of(plan.lend()).pulls;
+    if pulls.is_empty() {
+        return random.within(1..=512);
+    }
+    let fullest = pulls.iter().copied().max().unwrap_or(0);
+    let some = random.pick(&pulls);
+    let cars = random.pick(&[fullest, some]);
+    (cars + 1).saturating_sub(random.below(3)).clamp(1, 512)
+}
+
+/// A count that is out of every range, or looks like `count` in fewer bits.
+pub fn wild_count(random: &mut Random, count: usize) -> usize {
+    let bits = random.pick(&[8, 16, 32, 63]);
+    match random.below(6) {
+        0 => 0,
+        1 => random.pick(&[9, 10, 64, 65, 512, 513, 1024, 4608, 4609]),
+        2 => usize::MAX - random.below(3),
+        3 => count.wrapping_add(1 << bits),
+        4 => count.wrapping_neg(),
+        _ => count.wrapping_add(1),
+    }
+}
+
+/// One fault in a night; some leave it sound, as a length moved from train to train does.
+pub fn damage_night(random: &mut Random, night: &mut OwnNight) {
+    match random.below(12) {
+        0 => night.tracks = wild_count(random, night.tracks),
+        1 => night.room = wild_count(random, night.room),
+        2 => damage_item(random, &mut night.lengths),
+        3 => zero_item(random, &mut night.lengths),
+        4 => move_length(random, &mut night.lengths),
+        5 => damage_length(random, &mut night.lengths, 64),
+        6 => wrap_lengths(&mut night.lengths),
+        7 => damage_item(random, &mut night.inbound),
+        8 => zero_item(random, &mut night.inbound),
+        9 => duplicate_item(random, &mut night.inbound),
+        10 => damage_length(random, &mut night.inbound, 512),
+        _ => put_beyond(random, &mut night.inbound),
+    }
+}
+
+/// One fault in a plan's codes or steps.
+pub fn damage_codes(random: &mut Random, plan: &mut OwnPlan) {
+    match random.below(7) {
+        0 => damage_item(random, &mut plan.codes),
+        1 => flip_bit(random, &mut plan.codes),
+        2 => set_too_large(random, plan),
+        3 => duplicate_item(random, &mut plan.codes),
+        4 => damage_length(random, &mut plan.codes, 512),
+        5 => plan.steps = random.below(9),
+        _ => plan.steps = wild_count(random, plan.steps),
+    }
+}
+
+fn place_in<T>(random: &mut Random, list: &[T]) -> Option<usize> {
+    (!list.is_empty()).then(|| random.below(list.len()))
+}
+
+fn damage_item(random: &mut Random, list: &mut [u16]) {
+    if let Some(place) = place_in(random, list) {
+        list[place] = match random.below(4) {
+            0 => list[place].wrapping_add(1),
+            1 => list[place].wrapping_sub(1),
+            2 => random.bits() as u16,
+            _ => random.below(list.len() + 2) as u16,
+        };
+    }
+}
+
+fn zero_item(random: &mut Random, list: &mut [u16]) {
+    if let Some(place) = place_in(random, list) {
+        list[place] = 0;
+    }
+}
+
+fn duplicate_item(random: &mut Random, list: &mut [u16]) {
+    if let (Some(from), Some(to)) = (place_in(random, list), place_in(random, list)) {
+        list[to] = list[from];
+    }
+}
+
+/// A number just above the list's own length, which no car bears.
+fn put_beyond(random: &mut Random, list: &mut [u16]) {
+    if let Some(place) = place_in(random, list) {
+        list[place] = (list.len() as u16).wrapping_add(random.below(2) as u16);
+    }
+}
+
+fn flip_bit(random: &mut Random, list: &mut [u16]) {
+    if let Some(place) = place_in(random, list) {
+        list[place] ^= 1 << random.below(16);
+    }
+}
+
+fn set_too_large(random: &mut Random, plan: &mut OwnPlan) {
+    if let Some(place) = place_in(random, &plan.codes) {
+        let least = 1u16.checked_shl(plan.steps as u32).unwrap_or(u16::MAX);
+        plan.codes[place] = random.pick(&[least, least.saturating_add(1), 255, 256, u16::MAX]);
+    }
+}
+
+fn move_length(random: &mut Random, lengths: &mut [u16]) {
+    if let (Some(from), Some(to)) = (place_in(random, lengths), place_in(random, lengths)) {
+        lengths[from] = lengths[from].wrapping_sub(1);
+        lengths[to] = lengths[to].wrapping_add(1);
+    }
+}
+
+/// Adds 65536 to the sum, so that a sum kept in 16 bits would still be right.
+fn wrap_lengths(lengths: &mut Vec<u16>) {
+    match lengths.last_mut() {
+        Some(last) if *last > 1 => {
+            *last -= 1;
+            lengths.extend([u16::MAX, 2]);
+        }
+        _ => lengths.extend([u16::MAX, 1]),
+    }
+}
+
+/// One item short or long, empty, or just beyond the most that is allowed.
+fn damage_length(random: &mut Random, list: &mut Vec<u16>, most: usize) {
+    let next = (list.len() as u16).wrapping_add(1);
+    match random.below(40) {
+        0..=11 => {
+            list.pop();
+        }
+        12..=23 => list.push(next),
+        24..=29 => list.clear(),
+        30..=38 => extend_to(list, most + random.below(3)),
+        // A length that looks right in 16 bits; rare, since it takes long.
+        _ => extend_to(list, list.len() + 65536),
+    }
+}
+
+/// Goes on with the numbers that would follow in a list in order.
+fn extend_to(list: &mut Vec<u16>, len: usize) {
+    while list.len() < len {
+        list.push((list.len() as u16).wrapping_add(1));
+    }
+}
+
+/// A card: written whole, or packed with counts out of range, then perhaps damaged.
+pub fn any_card(random: &mut Random, plan: &OwnPlan) -> Vec<u8> {
+    let mut card = match random.below(10) {
+        0..=6 => whole_card(plan),
+        7..=8 => wild_card(random, plan),
+        _ => random_bytes(random),
+    };
+    if random.chance(60) {
+        damage_card(random, &mut card);
+    }
+    card
+}
+
+/// The card as the reference writes it, or with wild lists where it refuses to.
+pub fn whole_card(plan: &OwnPlan) -> Vec<u8> {
+    match write(plan.lend(), 1237) {
+        Ok(card) => card,
+        Err(_) => packed(plan, 1, plan.night.inbound.len(), plan.night.lengths.len()),
+    }
+}
+
+/// A card on which one count is a random number of its width; the lists stay as they are.
+fn wild_card(random: &mut Random, plan: &OwnPlan) -> Vec<u8> {
+    let mut wild = plan.clone();
+    let mut edition = 1;
+    let mut cars = plan.night.inbound.len();
+    let mut trains = plan.night.lengths.len();
+    for _ in 0..random.within(1..=2) {
+        match random.below(6) {
+            0 => edition = random.below(16),
+            1 => wild.steps = random.below(16),
+            2 => wild.night.tracks = random.pick(&[0, 8, 9, 15]),
+            3 => wild.night.room = random.pick(&[0, 1, 512, 513, 1023]),
+            4 => cars = random.pick(&[0, 1, 512, 513, 1023]),
+            _ => trains = random.pick(&[0, 1, 64, 65, 127]),
+        }
+    }
+    packed(&wild, edition, cars, trains)
+}
+
+/// The fields of a card, each cut to its width, whatever they hold.
+fn packed(plan: &OwnPlan, edition: usize, cars: usize, trains: usize) -> Vec<u8> {
+    let mut bits = Packer::default();
+    let header = [
+        (edition, 4),
+        (plan.steps, 4),
+        (plan.night.tracks, 4),
+        (plan.night.room, 10),
+        (cars, 10),
+        (trains, 7),
+    ];
+    for (number, width) in header {
+        bits.put(number, width);
+    }
+    let lists = [
+        (&plan.night.lengths, 10),
+        (&plan.night.inbound, 10),
+        (&plan.codes, plan.steps.min(8)),
+    ];
+    for (list, width) in lists {
+        for &item in list.iter().take(600) {
+            bits.put(usize::from(item), width);
+        }
+    }
+    bits.bytes()
+}
+
+fn random_bytes(random: &mut Random) -> Vec<u8> {
+    let len = random.pick(&[1, 4, 5, 6, 40]);
+    let mut bytes: Vec<u8> = (0..len).map(|_| random.bits() as u8).collect();
+    if random.chance(70) {
+        bytes[0] = 16 + bytes[0] % 16;
+    }
+    bytes
+}
+
+fn damage_card(random: &mut Random, card: &mut Vec<u8>) {
+    match random.below(6) {
+        0 => card.truncate(random.below(7)),
+        1 => card.truncate(random.below(card.len() + 1)),
+        2 => {
+            card.pop();
+        }
+        3 => lengthen_card(random, card),
+        4 => flip_card_bits(random, card, 0),
+        // The last byte holds the padding.
+        _ => {
+            let last = card.len().saturating_sub(1);
+            flip_card_bits(random, card, last);
+        }
+    }
+}
+
+fn lengthen_card(random: &mut Random, card: &mut Vec<u8>) {
+    for _ in 0..random.within(1..=3) {
+        card.push(random.pick(&[0, 0, 1, 255]));
+    }
+}
+
+/// Turns over one to three bits from a byte on.
+fn flip_card_bits(random: &mut Random, card: &mut [u8], from: usize) {
+    let part = &mut card[from..];
+    for _ in 0..random.within(1..=3) {
+        if let Some(place) = place_in(random, part) {
+            part[place] ^= 1 << random.below(8);
+        }
+    }
+}
+
+pub fn any_timings(random: &mut Random) -> Timings {
+    Timings {
+        pull: any_timing(random),
+        push: any_timing(random),
+    }
+}
+
+/// Mostly a timing that is allowed, else one of every kind that is not.
+fn any_timing(random: &mut Random) -> f64 {
+    let sixteenths = random.below(4096 * 16 + 1) as f64;
+    let edges = [0.0, 0.0625, 1.0, 4096.0, 4095.9375];
+    let edge = random.pick(&edges);
+    match random.below(16) {
+        0..=7 => sixteenths / 16.0,
+        8..=9 => edge,
+        10 => neighbour(random, edge),
+        11 => neighbour(random, sixteenths / 16.0),
+        12 => random.pick(&[f64::NAN, f64::INFINITY, f64::NEG_INFINITY, -0.0, f64::MAX]),
+        13 => (sixteenths * 2.0 + 1.0) / 32.0,
+        14 => random.pick(&[
+            f64::from_bits(1),
+            f64::MIN_POSITIVE,
+            4096.0625,
+            4097.0,
+            8192.0,
+        ]),
+        _ => random_double(random),
+    }
+}
+
+/// The next double up or down, or the same below zero.
+fn neighbour(random: &mut Random, timing: f64) -> f64 {
+    match random.below(3) {
+        0 => f64::from_bits(timing.to_bits().wrapping_add(1)),
+        1 => f64::from_bits(timing.to_bits().wrapping_sub(1)),
+        _ => -timing,
+    }
+}
+
+/// Any bits: not-a-numbers of every kind and subnormals are among them.
+fn random_double(random: &mut Random) -> f64 {
+    let bits = random.bits();
+    match random.below(3) {
+        0 => f64::from_bits(bits),
+        1 => f64::from_bits(bits | 0x7ff0_0000_0000_0000),
+        _ => f64::from_bits(bits & 0x800f_ffff_ffff_ffff),
+    }
+}
+
+/// Lengths and inbound lists of the paper's trial nights.
+pub fn trial_nights() -> Vec<(Vec<u16>, Vec<u16>)> {
+    let mut nights = vec![
+        (vec![6], vec![3, 6, 1, 5, 2, 4]),
+        (vec![1], vec![1]),
+        (vec![1, 1], vec![2, 1]),
+        (vec![2], vec![2, 1]),
+        (vec![2], vec![1, 1]),
+    ];
+    for cars in [7, 8, 256, 257] {
+        nights.push((vec![cars], (1..=cars).rev().collect()));
+    }
+    nights
+}
+
+/// All orders of the cars 1 to n: car n at every place of each shorter order.
+pub fn orders(cars: u16) -> Vec<Vec<u16>> {
+    if cars == 0 {
+        return vec![Vec::new()];
+    }
+    let mut all = Vec::new();
+    for shorter in orders(cars - 1) {
+        for place in 0..=shorter.len() {
+            let mut order = shorter.clone();
+            order.insert(place, cars);
+            all.push(order);
+        }
+    }
+    all
+}
+
+/// All ways to cut the cars into one to three trains.
+pub fn train_lengths(cars: u16) -> Vec<Vec<u16>> {
+    let mut all = vec![vec![cars]];
+    for first in 1..cars {
+        all.push(vec![first, cars - first]);
+        for second in 1..cars - first {
+            all.push(vec![first, second, cars - first - second]);
+        }
+    }
+    all
+}
+
+/// All code lists for these steps: a counter with one digit below 2^h for each car.
+pub fn code_lists(cars: usize, steps: usize) -> impl Iterator<Item = Vec<u16>> {
+    std::iter::successors(Some(vec![0; cars]), move |codes| {
+        let place = codes.iter().position(|&code| code + 1 < two_to(steps))?;
+        let mut next = codes.clone();
+        next[..place].fill(0);
+        next[place] += 1;
+        Some(next)
+    })
+}

@@ -1,0 +1,426 @@
+//! The reference for each call: the tests in the paper's order, then the work car by car.
+
+use crate::answers::{refuse, Answer, CardAnswer, PriceAnswer, Refusal, Timings};
+use crate::bits::{Packer, Unpacker};
+use crate::steps::{breaks_before, codes_for, fewest_steps, two_to};
+use crate::yard::{first_out_of_order, Replay, Yard};
+use crate::{Night, Plan};
+
+/// What an accepted derive answers and writes.
+#[derive(Clone, Debug, PartialEq, Eq)]
+pub struct Derived {
+    pub steps: usize,
+    pub passes: usize,
+    pub codes: Vec<u16>,
+}
+
+/// What an accepted check answers.
+#[derive(Clone, Copy, Debug, PartialEq, Eq)]
+pub struct Checked {
+    pub passes: usize,
+    pub fullest: usize,
+}
+
+/// What an accepted replay to a stage answers and writes, in car order.
+#[derive(Clone, Debug, PartialEq, Eq)]
+pub struct Staged {
+    pub passes: usize,
+    pub on: Vec<u16>,
+    pub at: Vec<u16>,
+}
+
+/// What an accepted card holds.
+#[derive(Clone, Debug, PartialEq, Eq)]
+pub struct Card {
+    pub steps: usize,
+    pub tracks: usize,
+    pub room: usize,
+    pub lengths: Vec<u16>,
+    pub inbound: Vec<u16>,
+    pub codes: Vec<u16>,
+}
+
+/// How many items each buffer lent to the card reader can hold.
+#[derive(Clone, Copy, Debug)]
+pub struct CardBuffers {
+    pub lengths: usize,
+    pub inbound: usize,
+    pub codes: usize,
+}
+
+pub fn derive(night: Night, limit: usize, codes_len: usize) -> Result<Derived, Refusal> {
+    test_night(night, limit)?;
+    test_buffer(codes_len, night.inbound.len(), 3)?;
+    let breaks = breaks_before(night);
+    let most_breaks = breaks.iter().copied().max().unwrap_or(0);
+    let steps = fewest_steps(night.tracks, most_breaks);
+    if steps > limit {
+        return Err(refuse(5, steps));
+    }
+    let codes = codes_for(&breaks, night.tracks, steps);
+    let replay = Replay::of(Plan {
+        night,
+        steps,
+        codes: &codes,
+    });
+    test_room(night, &replay)?;
+    Ok(Derived {
+        steps,
+        passes: replay.end().passes,
+        codes,
+    })
+}
+
+pub fn check(plan: Plan) -> Result<Checked, Refusal> {
+    test_night(plan.night, plan.steps)?;
+    test_codes_length(plan)?;
+    test_codes(plan)?;
+    let replay = Replay::of(plan);
+    test_early(&replay)?;
+    test_room(plan.night, &replay)?;
+    let built = &replay.end().destinations;
+    match first_out_of_order(plan.night.lengths, built) {
+        Some(car) => Err(refuse(9, usize::from(car))),
+        None => Ok(Checked {
+            passes: replay.end().passes,
+            fullest: replay.fullest_pull(),
+        }),
+    }
+}
+
+pub fn replay(plan: Plan, stage: usize, on_len: usize, at_len: usize) -> Result<Staged, Refusal> {
+    let night = plan.night;
+    let cars = night.inbound.len();
+    test_counts(
+        cars,
+        night.lengths.len(),
+        night.tracks,
+        night.room,
+        plan.steps,
+    )?;
+    // The stage is the last of the counts, so it comes after the five others.
+    if stage > plan.steps {
+        return Err(refuse(1, 6));
+    }
+    test_lengths(night.lengths, cars)?;
+    test_inbound(night.inbound)?;
+    test_codes_length(plan)?;
+    test_buffer(on_len, cars, 4)?;
+    test_buffer(at_len, cars, 5)?;
+    test_codes(plan)?;
+    let replay = Replay::of(plan);
+    test_early(&replay)?;
+    test_room(night, &replay)?;
+    Ok(stand(&replay.stages[stage], cars))
+}
+
+pub fn read(card: &[u8], buffers: CardBuffers) -> Result<Card, Refusal> {
+    let Some(first_byte) = card.first() else {
+        return Err(refuse(10, 1));
+    };
+    let edition = usize::from(first_byte / 16);
+    if edition != 1 {
+        return Err(refuse(11, edition));
+    }
+    if card.len() < 5 {
+        return Err(refuse(10, 5));
+    }
+    let mut bits = Unpacker::new(card);
+    bits.take(4);
+    let steps = bits.take(4);
+    let tracks = bits.take(4);
+    let room = bits.take(10);
+    let cars = bits.take(10);
+    let trains = bits.take(7);
+    test_counts(cars, trains, tracks, room, steps)?;
+    let whole = card_length(cars, trains, steps);
+    if card.len() < whole {
+        return Err(refuse(10, whole));
+    }
+    test_buffer(buffers.lengths, trains, 1)?;
+    test_buffer(buffers.inbound, cars, 2)?;
+    test_buffer(buffers.codes, cars, 3)?;
+    let lengths = take_list(&mut bits, trains, 10);
+    test_lengths(&lengths, cars)?;
+    let inbound = take_list(&mut bits, cars, 10);
+    test_inbound(&inbound)?;
+    let codes = take_list(&mut bits, cars, steps);
+    if !bits.is_rest_of_byte_zero() || card.len() > whole {
+        return Err(refuse(12, whole));
+    }
+    Ok(Card {
+        steps,
+        tracks,
+        room,
+        lengths,
+        inbound,
+        codes,
+    })
+}
+
+pub fn write(plan: Plan, card_len: usize) -> Result<Vec<u8>, Refusal> {
+    test_night(plan.night, plan.steps)?;
+    test_codes_length(plan)?;
+    test_codes(plan)?;
+    let card = pack(plan);
+    test_buffer(card_len, card.len(), 6)?;
+    Ok(card)
+}
+
+pub fn price(steps: usize, passes: usize, timings: Timings) -> Result<f64, Refusal> {
+    if steps > 8 {
+        return Err(refuse(1, 5));
+    }
+    if passes > 4608 {
+        return Err(refuse(1, 7));
+    }
+    let pull = sixteenths(timings.pull).ok_or(refuse(13, 1))?;
+    let push = sixteenths(timings.push).ok_or(refuse(13, 2))?;
+    let mut sum = 0;
+    for _ in 0..steps {
+        sum += pull;
+    }
+    for _ in 0..passes {
+        sum += push;
+    }
+    // Below 2^53, so the whole number and its sixteenth are both exact.
+    Ok(f64::from(sum) / 16.0)
+}
+
+/// The tests 1, 2 and 3 of a night; steps may be a limit.
+fn test_night(night: Night, steps: usize) -> Result<(), Refusal> {
+    let cars = night.inbound.len();
+    test_counts(cars, night.lengths.len(), night.tracks, night.room, steps)?;
+    test_lengths(night.lengths, cars)?;
+    test_inbound(night.inbound)
+}
+
+fn test_counts(
+    cars: usize,
+    trains: usize,
+    tracks: usize,
+    room: usize,
+    steps: usize,
+) -> Result<(), Refusal> {
+    let ranges = [
+        (cars, 1, 512),
+        (trains, 1, 64),
+        (tracks, 1, 8),
+        (room, 1, 512),
+        (steps, 0, 8),
+    ];
+    for (place, (count, least, most)) in ranges.into_iter().enumerate() {
+        if count < least || count > most {
+            return Err(refuse(1, place + 1));
+        }
+    }
+    Ok(())
+}
+
+fn test_lengths(lengths: &[u16], cars: usize) -> Result<(), Refusal> {
+    for (place, &length) in lengths.iter().enumerate() {
+        if length == 0 {
+            return Err(refuse(2, place + 1));
+        }
+    }
+    let mut sum = 0;
+    for &length in lengths {
+        sum += usize::from(length);
+    }
+    if sum != cars {
+        return Err(refuse(2, 0));
+    }
+    Ok(())
+}
+
+fn test_inbound(inbound: &[u16]) -> Result<(), Refusal> {
+    for (place, &car) in inbound.iter().enumerate() {
+        let out_of_range = car == 0 || usize::from(car) > inbound.len();
+        if out_of_range || inbound[..place].contains(&car) {
+            return Err(refuse(3, place + 1));
+        }
+    }
+    Ok(())
+}
+
+fn test_codes_length(plan: Plan) -> Result<(), Refusal> {
+    if plan.codes.len() != plan.night.inbound.len() {
+        return Err(refuse(4, 3));
+    }
+    Ok(())
+}
+
+/// A buffer may be longer than what is written to it, not shorter.
+fn test_buffer(len: usize, needed: usize, list: usize) -> Result<(), Refusal> {
+    if len < needed {
+        return Err(refuse(4, list));
+    }
+    Ok(())
+}
+
+fn test_codes(plan: Plan) -> Result<(), Refusal> {
+    for (place, &code) in plan.codes.iter().enumerate() {
+        if code >= two_to(plan.steps) {
+            return Err(refuse(7, place + 1));
+        }
+    }
+    Ok(())
+}
+
+fn test_early(replay: &Replay) -> Result<(), Refusal> {
+    match replay.early {
+        Some(early) => Err(Refusal {
+            number: 8,
+            a: usize::from(early.car),
+            b: early.step,
+        }),
+        None => Ok(()),
+    }
+}
+
+fn test_room(night: Night, replay: &Replay) -> Result<(), Refusal> {
+    match replay.overfilled(night.room) {
+        Some((step, cars)) => Err(Refusal {
+            number: 6,
+            a: step,
+            b: cars,
+        }),
+        None => Ok(()),
+    }
+}
+
+/// Where each car stands at a stage: sorting tracks first, then the destinations.
+fn stand(yard: &Yard, cars: usize) -> Staged {
+    let mut on = vec![u16::MAX; cars];
+    let mut at = vec![u16::MAX; cars];
+    let all_tracks = yard.tracks.iter().chain(&yard.destinations);
+    for (track, list) in (0..).zip(all_tracks) {
+        for (place, &car) in (0..).zip(list) {
+            on[usize::from(car) - 1] = track;
+            at[usize::from(car) - 1] = place;
+        }
+    }
+    Staged {
+        passes: yard.passes,
+        on,
+        at,
+    }
+}
+
+/// The bytes of a card with these counts.
+pub fn card_length(cars: usize, trains: usize, steps: usize) -> usize {
+    let bits = 4 + 4 + 4 + 10 + 10 + 7 + trains * 10 + cars * 10 + cars * steps;
+    let mut bytes = 0;
+    while bytes * 8 < bits {
+        bytes += 1;
+    }
+    bytes
+}
+
+fn take_list(bits: &mut Unpacker, count: usize, width: usize) -> Vec<u16> {
+    // No width is above 10, so every number fits.
+    (0..count).map(|_| bits.take(width) as u16).collect()
+}
+
+/// The card of a plan that passed all tests.
+fn pack(plan: Plan) -> Vec<u8> {
+    let night = plan.night;
+    let mut bits = Packer::default();
+    bits.put(1, 4);
+    bits.put(plan.steps, 4);
+    bits.put(night.tracks, 4);
+    bits.put(night.room, 10);
+    bits.put(night.inbound.len(), 10);
+    bits.put(night.lengths.len(), 7);
+    for &length in night.lengths {
+        bits.put(usize::from(length), 10);
+    }
+    for &car in night.inbound {
+        bits.put(usize::from(car), 10);
+    }
+    for &code in plan.codes {
+        bits.put(usize::from(code), plan.steps);
+    }
+    bits.bytes()
+}
+
+/// A timing in sixteenths, taken from the double's own bits, or nothing if it is not allowed.
+fn sixteenths(timing: f64) -> Option<u32> {
+    let bits = timing.to_bits();
+    let is_negative = bits >> 63 == 1;
+    let exponent = (bits >> 52) % 2048;
+    let fraction = bits % (1 << 52);
+    if exponent == 0 && fraction == 0 && !is_negative {
+        return Some(0);
+    }
+    // From 1/16 up to below 8192 the exponent is 1019 to 1035; no timing lies outside.
+    if is_negative || !(1019..=1035).contains(&exponent) {
+        return None;
+    }
+    // The value is the significand times 2^(exponent - 1075), so in sixteenths it is
+    // the significand divided by 2^(1071 - exponent).
+    let significand = fraction + (1 << 52);
+    let divisor = 1u64 << (1071 - exponent);
+    let whole = significand / divisor;
+    if !significand.is_multiple_of(divisor) || whole > 4096 * 16 {
+        return None;
+    }
+    u32::try_from(whole).ok()
+}
+
+/// The answer of a call that hands back numbers alone.
+pub fn derive_answer(outcome: &Result<Derived, Refusal>) -> Answer {
+    match outcome {
+        Ok(derived) => Answer::done(derived.steps, derived.passes),
+        Err(refusal) => Answer::from(*refusal),
+    }
+}
+
+pub fn check_answer(outcome: &Result<Checked, Refusal>) -> Answer {
+    match outcome {
+        Ok(checked) => Answer::done(checked.passes, checked.fullest),
+        Err(refusal) => Answer::from(*refusal),
+    }
+}
+
+pub fn replay_answer(outcome: &Result<Staged, Refusal>) -> Answer {
+    match outcome {
+        Ok(staged) => Answer::done(staged.passes, 0),
+        Err(refusal) => Answer::from(*refusal),
+    }
+}
+
+pub fn read_answer(outcome: &Result<Card, Refusal>) -> CardAnswer {
+    match outcome {
+        Ok(card) => CardAnswer {
+            number: 0,
+            a: 0,
+            b: 0,
+            steps: card.steps,
+            tracks: card.tracks,
+            room: card.room,
+            cars: card.inbound.len(),
+            trains: card.lengths.len(),
+        },
+        Err(refusal) => CardAnswer::from(*refusal),
+    }
+}
+
+pub fn write_answer(outcome: &Result<Vec<u8>, Refusal>) -> Answer {
+    match outcome {
+        Ok(card) => Answer::done(card.len(), 0),
+        Err(refusal) => Answer::from(*refusal),
+    }
+}
+
+pub fn price_answer(outcome: &Result<f64, Refusal>) -> PriceAnswer {
+    match outcome {
+        Ok(price) => PriceAnswer {
+            number: 0,
+            a: 0,
+            b: 0,
+            price: *price,
+        },
+        Err(refusal) => PriceAnswer::from(*refusal),
+    }
+}

@@ -1,0 +1,262 @@
+//! One trial: a night from a seed, with plans and cards for it, through every call.
+
+use crate::harness::{
+    compare_check, compare_derive, compare_fewest_tracks, compare_price, compare_read,
+    compare_replay, compare_write, StageBuffers,
+};
+use crate::nights::{
+    any_card, any_night, any_plan, any_timings, code_lists, damage_codes, damage_night,
+    derived_plan, orders, tight_room, train_lengths, trial_nights, whole_card, wild_count,
+    OwnNight, OwnPlan,
+};
+use crate::random::Random;
+use crate::reference::{card_length, CardBuffers};
+use crate::tally::Tally;
+use crate::Calls;
+
+/// What all trials of a run share.
+pub struct Bench<'a> {
+    pub random: &'a mut Random,
+    pub tally: &'a mut Tally,
+}
+
+/// All calls once or more, on a night that this trial's generator makes.
+pub fn trial<C: Calls>(bench: &mut Bench) -> Result<(), String> {
+    let night = any_night(bench.random);
+    let plan = any_plan(bench.random, &night);
+    derive_trial::<C>(bench, &night)?;
+    check_trial::<C>(bench, &plan)?;
+    replay_trial::<C>(bench, &plan)?;
+    write_trial::<C>(bench, &plan)?;
+    read_trial::<C>(bench, &plan)?;
+    price_trial::<C>(bench)
+}
+
+fn derive_trial<C: Calls>(bench: &mut Bench, night: &OwnNight) -> Result<(), String> {
+    let random = &mut *bench.random;
+    let mut night = night.clone();
+    if random.chance(35) {
+        night.room = tight_room(random, &derived_plan(&night));
+    }
+    let mut limit = if random.chance(70) {
+        8
+    } else {
+        random.below(9)
+    };
+    if random.chance(5) {
+        limit = wild_count(random, limit);
+    }
+    damage_some(random, &mut night);
+    let codes_len = any_length(random, night.inbound.len());
+    compare_derive::<C>(random, bench.tally, night.lend(), limit, codes_len)
+}
+
+fn check_trial<C: Calls>(bench: &mut Bench, plan: &OwnPlan) -> Result<(), String> {
+    let plan = damaged(bench.random, plan);
+    compare_check::<C>(bench.random, bench.tally, plan.lend())
+}
+
+/// One stage, or all of them one after the other.
+fn replay_trial<C: Calls>(bench: &mut Bench, plan: &OwnPlan) -> Result<(), String> {
+    let random = &mut *bench.random;
+    let plan = damaged(random, plan);
+    let cars = plan.night.inbound.len();
+    let last = plan.steps.min(9);
+    let mut stages = vec![random.below(last + 1)];
+    if random.chance(10) {
+        stages = (0..=last).collect();
+    }
+    if random.chance(8) {
+        stages = vec![plan.steps.wrapping_add(1), wild_count(random, plan.steps)];
+    }
+    for stage in stages {
+        let buffers = StageBuffers {
+            on: any_length(random, cars),
+            at: any_length(random, cars),
+        };
+        compare_replay::<C>(random, bench.tally, plan.lend(), stage, buffers)?;
+    }
+    Ok(())
+}
+
+fn write_trial<C: Calls>(bench: &mut Bench, plan: &OwnPlan) -> Result<(), String> {
+    let random = &mut *bench.random;
+    let plan = damaged(random, plan);
+    let whole = card_length(
+        plan.night.inbound.len().min(512),
+        plan.night.lengths.len().min(64),
+        plan.steps.min(8),
+    );
+    let card_len = any_length(random, whole);
+    compare_write::<C>(random, bench.tally, plan.lend(), card_len)
+}
+
+fn read_trial<C: Calls>(bench: &mut Bench, plan: &OwnPlan) -> Result<(), String> {
+    let random = &mut *bench.random;
+    let plan = damaged(random, plan);
+    let card = any_card(random, &plan);
+    let cars = plan.night.inbound.len().min(513);
+    let mut buffers = CardBuffers {
+        lengths: any_length(random, plan.night.lengths.len().min(65)),
+        inbound: any_length(random, cars),
+        codes: any_length(random, cars),
+    };
+    if random.chance(25) {
+        // Ample buffers let flipped counts get as far as the lists.
+        buffers = CardBuffers {
+            lengths: 64,
+            inbound: 512,
+            codes: 512,
+        };
+    }
+    compare_read::<C>(random, bench.tally, &card, buffers)
+}
+
+fn price_trial<C: Calls>(bench: &mut Bench) -> Result<(), String> {
+    let random = &mut *bench.random;
+    for _ in 0..4 {
+        let mut steps = random.below(9);
+        let mut passes = random.below(4609);
+        if random.chance(10) {
+            steps = wild_count(random, steps);
+        }
+        if random.chance(10) {
+            passes = wild_count(random, passes);
+        }
+        let timings = any_timings(random);
+        compare_price::<C>(bench.tally, steps, passes, timings)?;
+    }
+    Ok(())
+}
+
+/// All 256 codes of the table, each once.
+pub fn table_trial<C: Calls>(tally: &mut Tally) -> Result<(), String> {
+    for code in 0..=255 {
+        compare_fewest_tracks::<C>(tally, code)?;
+    }
+    Ok(())
+}
+
+/// The paper's trial nights and its card, through every call with all limits and stages.
+pub fn paper_nights<C: Calls>(tally: &mut Tally) -> Result<(), String> {
+    let mut random = Random::new(0, 1);
+    let mut bench = Bench {
+        random: &mut random,
+        tally,
+    };
+    for (lengths, inbound) in trial_nights() {
+        for tracks in 1..=8 {
+            for room in [1, 2, 3, 512] {
+                let night = OwnNight {
+                    lengths: lengths.clone(),
+                    inbound: inbound.clone(),
+                    tracks,
+                    room,
+                };
+                whole_night::<C>(&mut bench, &night)?;
+            }
+        }
+    }
+    Ok(())
+}
+
+/// One sound or unsound night with its derived plan, where it has one, through every call.
+fn whole_night<C: Calls>(bench: &mut Bench, night: &OwnNight) -> Result<(), String> {
+    let cars = night.inbound.len();
+    for limit in 0..=8 {
+        compare_derive::<C>(bench.random, bench.tally, night.lend(), limit, cars)?;
+    }
+    let plan = derived_plan(night);
+    compare_check::<C>(bench.random, bench.tally, plan.lend())?;
+    for stage in 0..=plan.steps + 1 {
+        let buffers = StageBuffers { on: cars, at: cars };
+        compare_replay::<C>(bench.random, bench.tally, plan.lend(), stage, buffers)?;
+    }
+    let len = card_length(cars, night.lengths.len(), plan.steps);
+    compare_write::<C>(bench.random, bench.tally, plan.lend(), len)?;
+    let buffers = CardBuffers {
+        lengths: night.lengths.len(),
+        inbound: cars,
+        codes: cars,
+    };
+    let card = whole_card(&plan);
+    compare_read::<C>(bench.random, bench.tally, &card, buffers)
+}
+
+/// Every small night with every code list of up to two steps, room for two, all stages.
+pub fn small_nights<C: Calls>(tally: &mut Tally, most_cars: u16) -> Result<(), String> {
+    let mut random = Random::new(0, 0);
+    let mut bench = Bench {
+        random: &mut random,
+        tally,
+    };
+    for cars in 1..=most_cars {
+        for inbound in orders(cars) {
+            for lengths in train_lengths(cars) {
+                for tracks in 1..=2 {
+                    let night = OwnNight {
+                        lengths: lengths.clone(),
+                        inbound: inbound.clone(),
+                        tracks,
+                        room: 2,
+                    };
+                    small_plans::<C>(&mut bench, &night)?;
+                }
+            }
+        }
+    }
+    Ok(())
+}
+
+/// Derive, and all plans of up to two steps through check and replay.
+fn small_plans<C: Calls>(bench: &mut Bench, night: &OwnNight) -> Result<(), String> {
+    let cars = night.inbound.len();
+    for limit in 0..=2 {
+        compare_derive::<C>(bench.random, bench.tally, night.lend(), limit, cars)?;
+    }
+    for steps in 0..=2 {
+        for codes in code_lists(cars, steps) {
+            let plan = OwnPlan {
+                night: night.clone(),
+                steps,
+                codes,
+            };
+            compare_check::<C>(bench.random, bench.tally, plan.lend())?;
+            for stage in 0..=steps {
+                let buffers = StageBuffers { on: cars, at: cars };
+                compare_replay::<C>(bench.random, bench.tally, plan.lend(), stage, buffers)?;
+            }
+        }
+    }
+    Ok(())
+}
+
+/// About one night in four gets a fault, and some of them two, for the order of refusals.
+fn damage_some(random: &mut Random, night: &mut OwnNight) {
+    if random.chance(25) {
+        for _ in 0..random.within(1..=2) {
+            damage_night(random, night);
+        }
+    }
+}
+
+fn damaged(random: &mut Random, plan: &OwnPlan) -> OwnPlan {
+    let mut plan = plan.clone();
+    if random.chance(30) {
+        for _ in 0..random.within(1..=2) {
+            damage_codes(random, &mut plan);
+        }
+    }
+    damage_some(random, &mut plan.night);
+    plan
+}
+
+/// A buffer that is long enough in most trials, and seldom one item or more too short.
+fn any_length(random: &mut Random, needed: usize) -> usize {
+    match random.below(20) {
+        0 => needed.saturating_sub(1),
+        1 => random.below(needed + 1),
+        2..=9 => needed + random.within(1..=5),
+        _ => needed,
+    }
+}

@@ -1,0 +1,172 @@
+//! The yard as the paper describes it: real lists of cars, moved over the hump one by one.
+
+use crate::Plan;
+
+/// Whether a car with this code is pulled in this step: its bit of value 2^step is set.
+pub fn is_pulled_in(code: u16, step: usize) -> bool {
+    let mut rest = code;
+    for _ in 0..step {
+        rest /= 2;
+    }
+    rest % 2 == 1
+}
+
+/// The train of a car, counted from 0, found by walking along the trains.
+pub fn train_of(lengths: &[u16], car: u16) -> usize {
+    let mut last_car = 0;
+    for (train, &length) in lengths.iter().enumerate() {
+        last_car += usize::from(length);
+        if usize::from(car) <= last_car {
+            return train;
+        }
+    }
+    panic!("car {car} is in no train of {lengths:?}")
+}
+
+/// All tracks at one stage, front car first, and the hump passes up to it.
+#[derive(Clone, Debug)]
+pub struct Yard {
+    pub tracks: Vec<Vec<u16>>,
+    pub destinations: Vec<Vec<u16>>,
+    pub passes: usize,
+}
+
+impl Yard {
+    fn empty(plan: Plan) -> Yard {
+        Yard {
+            tracks: vec![Vec::new(); plan.night.tracks],
+            destinations: vec![Vec::new(); plan.night.lengths.len()],
+            passes: 0,
+        }
+    }
+
+    /// One car over the hump, bound for its first step from `from` on, or its destination.
+    fn roll_in(&mut self, plan: Plan, car: u16, from: usize) {
+        self.passes += 1;
+        let code = plan.codes[usize::from(car) - 1];
+        let bound_for = (from..plan.steps).find(|&step| is_pulled_in(code, step));
+        match bound_for {
+            Some(step) => self.tracks[step % plan.night.tracks].push(car),
+            None => self.destinations[train_of(plan.night.lengths, car)].push(car),
+        }
+    }
+
+    /// Empties the track of a step; first in is first over the hump again.
+    fn pull(&mut self, plan: Plan, step: usize) -> Vec<u16> {
+        std::mem::take(&mut self.tracks[step % plan.night.tracks])
+    }
+}
+
+/// A car that a step takes although its code has 0 there.
+#[derive(Clone, Copy, Debug, PartialEq, Eq)]
+pub struct EarlyPull {
+    pub car: u16,
+    pub step: usize,
+}
+
+/// What was seen while a plan was replayed; an early pull ends it.
+#[derive(Clone, Debug)]
+pub struct Replay {
+    /// Stage s stands at index s, as far as the replay came.
+    pub stages: Vec<Yard>,
+    /// The cars on the track of each step when the step came.
+    pub pulls: Vec<usize>,
+    pub early: Option<EarlyPull>,
+}
+
+impl Replay {
+    /// Replays a plan whose lists are sound and whose codes are below 2^h.
+    pub fn of(plan: Plan) -> Replay {
+        let mut yard = Yard::empty(plan);
+        for &car in plan.night.inbound {
+            yard.roll_in(plan, car, 0);
+        }
+        let mut replay = Replay {
+            stages: vec![yard],
+            pulls: Vec::new(),
+            early: None,
+        };
+        for step in 0..plan.steps {
+            replay.take_step(plan, step);
+            if replay.early.is_some() {
+                break;
+            }
+        }
+        replay
+    }
+
+    fn take_step(&mut self, plan: Plan, step: usize) {
+        let mut yard = self.stages[step].clone();
+        let pulled = yard.pull(plan, step);
+        self.pulls.push(pulled.len());
+        self.early = first_early(plan, &pulled, step);
+        if self.early.is_none() {
+            for car in pulled {
+                yard.roll_in(plan, car, step + 1);
+            }
+            self.stages.push(yard);
+        }
+    }
+
+    /// The first step whose track held more cars than the room, with its cars.
+    pub fn overfilled(&self, room: usize) -> Option<(usize, usize)> {
+        for (step, &cars) in self.pulls.iter().enumerate() {
+            if cars > room {
+                return Some((step, cars));
+            }
+        }
+        None
+    }
+
+    pub fn fullest_pull(&self) -> usize {
+        let mut fullest = 0;
+        for &cars in &self.pulls {
+            if cars > fullest {
+                fullest = cars;
+            }
+        }
+        fullest
+    }
+
+    /// The yard after the last step that was replayed.
+    pub fn end(&self) -> &Yard {
+        &self.stages[self.stages.len() - 1]
+    }
+}
+
+/// The lowest car among the pulled ones whose code has 0 at this step.
+fn first_early(plan: Plan, pulled: &[u16], step: usize) -> Option<EarlyPull> {
+    let mut lowest = None;
+    for &car in pulled {
+        let due = is_pulled_in(plan.codes[usize::from(car) - 1], step);
+        if !due && lowest.is_none_or(|other| car < other) {
+            lowest = Some(car);
+        }
+    }
+    lowest.map(|car| EarlyPull { car, step })
+}
+
+/// The lowest car that stands in front of the car numbered one less, in a train as built.
+///
+/// This looks at the built trains alone; the rule on codes is not used.
+pub fn first_out_of_order(lengths: &[u16], built: &[Vec<u16>]) -> Option<u16> {
+    let mut first_car = 1;
+    for (train, &length) in lengths.iter().enumerate() {
+        let next_train = first_car + length;
+        for car in first_car + 1..next_train {
+            if place_of(&built[train], car) < place_of(&built[train], car - 1) {
+                return Some(car);
+            }
+        }
+        first_car = next_train;
+    }
+    None
+}
+
+/// Where a car stands in a list that holds it, from 0.
+pub fn place_of(list: &[u16], car: u16) -> usize {
+    match list.iter().position(|&other| other == car) {
+        Some(place) => place,
+        None => panic!("car {car} is not in {list:?}"),
+    }
+}

@@ -1,0 +1,190 @@
+//! The harness itself: it passes the idiomatic calls, and finds faults put into them.
+
+use second::answers::{Answer, CardAnswer, PriceAnswer, Timings};
+use second::idiomatic::Idiomatic;
+use second::random::Random;
+use second::tally::Tally;
+use second::trials::{small_nights, table_trial, trial, Bench};
+use second::{Calls, Night, Plan};
+
+const SEED: u64 = 7;
+const TRIALS: u64 = 4000;
+
+/// Runs trials until a difference is found.
+fn run<C: Calls>(tally: &mut Tally) -> Result<(), String> {
+    table_trial::<C>(tally)?;
+    for number in 0..TRIALS {
+        let mut random = Random::new(SEED, number);
+        let mut bench = Bench {
+            random: &mut random,
+            tally: &mut *tally,
+        };
+        trial::<C>(&mut bench)?;
+    }
+    Ok(())
+}
+
+#[test]
+fn idiomatic_calls_answer_as_the_reference_does() {
+    let mut tally = Tally::default();
+    assert_eq!(run::<Idiomatic>(&mut tally), Ok(()));
+    assert_eq!(small_nights::<Idiomatic>(&mut tally, 3), Ok(()));
+    assert!(tally.total() > 6 * TRIALS);
+}
+
+const LAST_CODE_KEPT: usize = 0;
+const ONE_CODE_MORE: usize = 1;
+const BREAKS_BETWEEN_TRAINS: usize = 2;
+const ONE_PASS_MORE: usize = 3;
+const ROOM_BEFORE_EARLY: usize = 4;
+const ORDER_NOT_TESTED: usize = 5;
+const TURNED_ROUND: usize = 6;
+const REFUSED_AND_WRITTEN: usize = 7;
+const PADDING_NOT_READ: usize = 8;
+const COUNTS_WHEN_REFUSED: usize = 9;
+const ONE_BYTE_MORE: usize = 10;
+const NEGATIVE_ZERO: usize = 11;
+const WRONG_ENTRY: usize = 12;
+const LENGTH_IN_16_BITS: usize = 13;
+
+/// The idiomatic calls with one fault.
+struct Faulty<const FAULT: usize>;
+
+impl<const FAULT: usize> Calls for Faulty<FAULT> {
+    const NAME: &'static str = "faulty";
+
+    fn derive(night: Night, limit: usize, codes: &mut [u16]) -> Answer {
+        let cars = night.inbound.len();
+        let before = codes.to_vec();
+        let whole = [cars as u16];
+        let night = match FAULT {
+            // One train of all cars, as if breaks between trains counted.
+            BREAKS_BETWEEN_TRAINS if night.lengths.len() == 2 => Night {
+                lengths: &whole,
+                ..night
+            },
+            LENGTH_IN_16_BITS => Night {
+                inbound: &night.inbound[..cars % 65536],
+                ..night
+            },
+            _ => night,
+        };
+        let answer = Idiomatic::derive(night, limit, codes);
+        match FAULT {
+            LAST_CODE_KEPT if answer.number == 0 => codes[cars - 1] = before[cars - 1],
+            ONE_CODE_MORE if codes.len() > cars => codes[cars] = 0,
+            _ => (),
+        }
+        answer
+    }
+
+    fn check(plan: Plan) -> Answer {
+        let mut answer = Idiomatic::check(plan);
+        match (FAULT, answer.number) {
+            (ONE_PASS_MORE, 0) => answer.a += 1,
+            (ROOM_BEFORE_EARLY, 8) => {
+                let room = plan.night.room;
+                let pulled = |step: usize| {
+                    let set = |code: &&u16| **code >> step & 1 == 1;
+                    plan.codes.iter().filter(set).count()
+                };
+                if let Some(step) = (0..plan.steps).find(|&step| pulled(step) > room) {
+                    answer = Answer {
+                        number: 6,
+                        a: step,
+                        b: pulled(step),
+                    };
+                }
+            }
+            (ORDER_NOT_TESTED, 9) => answer = Answer::done(plan.codes.len(), 0),
+            _ => (),
+        }
+        answer
+    }
+
+    fn replay(plan: Plan, stage: usize, on: &mut [u16], at: &mut [u16]) -> Answer {
+        let answer = Idiomatic::replay(plan, stage, on, at);
+        let cars = plan.codes.len();
+        match (FAULT, answer.number) {
+            (TURNED_ROUND, 0) => {
+                for car in 0..cars {
+                    let same_track = |other: &&u16| **other == on[car];
+                    let others = on[..cars].iter().filter(same_track).count() as u16;
+                    at[car] = others - 1 - at[car];
+                }
+            }
+            (REFUSED_AND_WRITTEN, 6) => at[0] = at[0].wrapping_add(1),
+            _ => (),
+        }
+        answer
+    }
+
+    fn read(
+        card: &[u8],
+        lengths: &mut [u16],
+        inbound: &mut [u16],
+        codes: &mut [u16],
+    ) -> CardAnswer {
+        let mut answer = Idiomatic::read(card, lengths, inbound, codes);
+        match (FAULT, answer.number) {
+            (PADDING_NOT_READ, 12) => {
+                answer = Idiomatic::read(&card[..answer.a], lengths, inbound, codes)
+            }
+            (COUNTS_WHEN_REFUSED, 12) => answer.steps = usize::from(card[0] % 16),
+            _ => (),
+        }
+        answer
+    }
+
+    fn write(plan: Plan, card: &mut [u8]) -> Answer {
+        let answer = Idiomatic::write(plan, card);
+        if FAULT == ONE_BYTE_MORE && answer.number == 0 && card.len() > answer.a {
+            card[answer.a] = 0;
+        }
+        answer
+    }
+
+    fn price(steps: usize, passes: usize, timings: Timings) -> PriceAnswer {
+        let mut answer = Idiomatic::price(steps, passes, timings);
+        if FAULT == NEGATIVE_ZERO && answer.number == 13 {
+            answer.price = -0.0;
+        }
+        answer
+    }
+
+    fn fewest_tracks(code: u8) -> usize {
+        let is_wrong = FAULT == WRONG_ENTRY && code == 128;
+        Idiomatic::fewest_tracks(code) - usize::from(is_wrong)
+    }
+}
+
+fn is_found<const FAULT: usize>() {
+    let found = run::<Faulty<FAULT>>(&mut Tally::default());
+    assert!(found.is_err(), "fault {FAULT} is not found");
+}
+
+#[test]
+fn faults_of_derive_are_found() {
+    is_found::<LAST_CODE_KEPT>();
+    is_found::<ONE_CODE_MORE>();
+    is_found::<BREAKS_BETWEEN_TRAINS>();
+    is_found::<LENGTH_IN_16_BITS>();
+}
+
+#[test]
+fn faults_of_check_and_replay_are_found() {
+    is_found::<ONE_PASS_MORE>();
+    is_found::<ROOM_BEFORE_EARLY>();
+    is_found::<ORDER_NOT_TESTED>();
+    is_found::<TURNED_ROUND>();
+    is_found::<REFUSED_AND_WRITTEN>();
+}
+
+#[test]
+fn faults_of_cards_prices_and_the_table_are_found() {
+    is_found::<PADDING_NOT_READ>();
+    is_found::<COUNTS_WHEN_REFUSED>();
+    is_found::<ONE_BYTE_MORE>();
+    is_found::<NEGATIVE_ZERO>();
+    is_found::<WRONG_ENTRY>();
+}

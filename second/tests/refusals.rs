@@ -1,0 +1,236 @@
+//! The order of refusals: an input with every fault, mended one fault at a time.
+
+use second::answers::{Refusal, Timings};
+use second::reference::{check, derive, price, replay, write};
+use second::{Night, Plan};
+
+/// A plan that owns its lists, so that one fault after the other can be mended.
+#[derive(Clone)]
+struct Faulty {
+    lengths: Vec<u16>,
+    inbound: Vec<u16>,
+    codes: Vec<u16>,
+    tracks: usize,
+    room: usize,
+    steps: usize,
+}
+
+impl Faulty {
+    /// Every count is out of its range.
+    fn in_all_counts() -> Faulty {
+        Faulty {
+            lengths: vec![],
+            inbound: vec![],
+            codes: vec![],
+            tracks: 9,
+            room: 0,
+            steps: 9,
+        }
+    }
+
+    fn plan(&self) -> Plan<'_> {
+        Plan {
+            night: Night {
+                lengths: &self.lengths,
+                inbound: &self.inbound,
+                tracks: self.tracks,
+                room: self.room,
+            },
+            steps: self.steps,
+            codes: &self.codes,
+        }
+    }
+}
+
+/// A mending and the refusal, number and A and B, that then comes.
+type Mending<'a> = (&'a dyn Fn(&mut Faulty), (usize, usize, usize));
+
+/// Mends the counts, the lengths and the inbound list, which all calls test alike.
+fn mend_the_night(call: &str, run: &dyn Fn(&Faulty) -> Option<Refusal>) -> Faulty {
+    let mendings: [Mending; 9] = [
+        (&|_| (), (1, 1, 0)),
+        (&|it| it.inbound = vec![1, 3, 1, 9], (1, 2, 0)),
+        (&|it| it.lengths = vec![2, 0, 0, 5], (1, 3, 0)),
+        (&|it| it.tracks = 1, (1, 4, 0)),
+        (&|it| it.room = 1, (1, 5, 0)),
+        (&|it| it.steps = 2, (2, 2, 0)),
+        (&|it| it.lengths = vec![2, 1, 2], (2, 0, 0)),
+        (&|it| it.lengths = vec![3, 1], (3, 3, 0)),
+        (&|it| it.inbound = vec![0, 3, 1, 9], (3, 1, 0)),
+    ];
+    let mut faulty = Faulty::in_all_counts();
+    for (mend, wanted) in mendings {
+        mend(&mut faulty);
+        expect(call, run(&faulty), wanted);
+    }
+    faulty.inbound = vec![3, 2, 1, 4];
+    faulty
+}
+
+fn expect(call: &str, found: Option<Refusal>, wanted: (usize, usize, usize)) {
+    let found = found.map(|refusal| (refusal.number, refusal.a, refusal.b));
+    assert_eq!(found, Some(wanted), "{call}");
+}
+
+#[test]
+fn derive_tests_1_2_3_4_5_6() {
+    let run = |it: &Faulty, codes_len| derive(it.plan().night, it.steps, codes_len).err();
+    let mut night = mend_the_night("derive", &|it| run(it, 0));
+    // Three cars reversed on one track need two steps; the limit is one, the room one car.
+    night.steps = 1;
+    expect("derive", run(&night, 3), (4, 3, 0));
+    expect("derive", run(&night, 4), (5, 2, 0));
+    night.steps = 2;
+    expect("derive", run(&night, 4), (6, 0, 2));
+    night.room = 2;
+    assert_eq!(run(&night, 4), None);
+    assert_eq!(run(&night, 400), None);
+}
+
+/// Mends what check and replay test alike: codes too large, early pulls, room.
+fn mend_the_plan(call: &str, faulty: &mut Faulty, run: &dyn Fn(&Faulty) -> Option<Refusal>) {
+    faulty.codes = vec![0, 2, 4, 9];
+    expect(call, run(faulty), (7, 3, 0));
+    // Codes of 2 are pulled early in step 0 on one track; car 2 is the lowest of them.
+    faulty.codes = vec![1, 2, 1, 2];
+    expect(call, run(faulty), (8, 2, 0));
+    // Of these only step 1 takes a car early, after step 0 was overfilled.
+    faulty.steps = 3;
+    faulty.codes = vec![1, 1, 5, 1];
+    expect(call, run(faulty), (8, 3, 1));
+    faulty.codes = vec![1, 1, 0, 0];
+    expect(call, run(faulty), (6, 0, 2));
+    // Room is met by each step alone: step 1 is the first with two cars.
+    faulty.tracks = 3;
+    faulty.codes = vec![2, 1, 2, 4];
+    expect(call, run(faulty), (6, 1, 2));
+    faulty.room = 2;
+}
+
+#[test]
+fn check_tests_1_2_3_4_7_8_6_9() {
+    let run = |it: &Faulty| check(it.plan()).err();
+    let mut plan = mend_the_night("check", &run);
+    for codes in [vec![], vec![9; 3], vec![9; 5]] {
+        plan.codes = codes;
+        expect("check", run(&plan), (4, 3, 0));
+    }
+    mend_the_plan("check", &mut plan, &run);
+    expect("check", run(&plan), (9, 2, 0));
+    plan.codes = vec![0, 1, 1, 0];
+    expect("check", run(&plan), (9, 3, 0));
+    plan.codes = vec![0, 1, 2, 0];
+    assert_eq!(run(&plan), None);
+}
+
+#[test]
+fn replay_tests_the_same_but_not_9() {
+    let run = |it: &Faulty, stage, on_len, at_len| replay(it.plan(), stage, on_len, at_len).err();
+    let mut plan = mend_the_night("replay", &|it| run(it, it.steps, 0, 0));
+    // The stage is a count, so it comes before every list, though after all other counts.
+    let mut counts = Faulty::in_all_counts();
+    counts.inbound = vec![1, 1];
+    counts.lengths = vec![0];
+    counts.tracks = 1;
+    counts.room = 1;
+    expect("replay", run(&counts, 10, 0, 0), (1, 5, 0));
+    counts.steps = 8;
+    expect("replay", run(&counts, 9, 0, 0), (1, 6, 0));
+    expect("replay", run(&counts, usize::MAX, 0, 0), (1, 6, 0));
+    expect("replay", run(&counts, 8, 0, 0), (2, 1, 0));
+    plan.codes = vec![9; 5];
+    expect("replay", run(&plan, 2, 3, 3), (4, 3, 0));
+    plan.codes = vec![9; 4];
+    expect("replay", run(&plan, 2, 3, 3), (4, 4, 0));
+    expect("replay", run(&plan, 2, 4, 3), (4, 5, 0));
+    mend_the_plan("replay", &mut plan, &|it| run(it, 0, 4, 4));
+    // This plan builds its train out of order, and is still replayed.
+    assert_eq!(run(&plan, 3, 4, 9), None);
+}
+
+#[test]
+fn write_tests_1_2_3_4_7_4() {
+    let run = |it: &Faulty, card_len| write(it.plan(), card_len).err();
+    let mut plan = mend_the_night("write", &|it| run(it, 0));
+    plan.codes = vec![4; 5];
+    expect("write", run(&plan, 0), (4, 3, 0));
+    plan.codes = vec![2, 3, 2, 4];
+    expect("write", run(&plan, 0), (7, 4, 0));
+    plan.codes = vec![2, 3, 2, 2];
+    // 39 bits, two lengths, four cars and four codes of two bits: 107 bits in 14 bytes.
+    expect("write", run(&plan, 13), (4, 6, 0));
+    assert_eq!(run(&plan, 14), None);
+    assert_eq!(run(&plan, 15), None);
+}
+
+#[test]
+fn the_ends_of_every_range_are_accepted() {
+    let inbound: Vec<u16> = (1..=512).collect();
+    let mut lengths = vec![8; 64];
+    for (tracks, room, limit) in [(1, 1, 0), (8, 512, 8)] {
+        let night = Night {
+            lengths: &lengths,
+            inbound: &inbound,
+            tracks,
+            room,
+        };
+        assert!(derive(night, limit, 512).is_ok());
+    }
+    lengths.push(1);
+    let night = Night {
+        lengths: &lengths,
+        inbound: &inbound,
+        tracks: 8,
+        room: 512,
+    };
+    expect("derive", derive(night, 8, 512).err(), (1, 2, 0));
+    let more: Vec<u16> = (1..=513).collect();
+    let longer = Night {
+        inbound: &more,
+        ..night
+    };
+    expect("derive", derive(longer, 8, 513).err(), (1, 1, 0));
+}
+
+#[test]
+fn counts_just_out_of_range_are_refused() {
+    let sound = Night {
+        lengths: &[2],
+        inbound: &[1, 2],
+        tracks: 1,
+        room: 1,
+    };
+    for tracks in [0, 9, 257, usize::MAX] {
+        let night = Night { tracks, ..sound };
+        expect("derive", derive(night, 0, 2).err(), (1, 3, 0));
+    }
+    for room in [0, 513, 65537, usize::MAX] {
+        let night = Night { room, ..sound };
+        expect("derive", derive(night, 0, 2).err(), (1, 4, 0));
+    }
+    for limit in [9, 256, usize::MAX] {
+        expect("derive", derive(sound, limit, 2).err(), (1, 5, 0));
+    }
+    assert!(derive(sound, 0, 2).is_ok());
+}
+
+#[test]
+fn a_length_list_is_summed_beyond_16_bits() {
+    let night = Night {
+        lengths: &[65535, 5],
+        inbound: &[1, 2, 3, 4],
+        tracks: 1,
+        room: 1,
+    };
+    expect("derive", derive(night, 8, 4).err(), (2, 0, 0));
+}
+
+#[test]
+fn price_tests_1_then_13() {
+    let run = |steps, passes, pull, push| price(steps, passes, Timings { pull, push }).err();
+    expect("price", run(9, 4609, -1.0, f64::NAN), (1, 5, 0));
+    expect("price", run(8, 4609, -1.0, f64::NAN), (1, 7, 0));
+    expect("price", run(8, 4608, -1.0, f64::NAN), (13, 1, 0));
+    expect("price", run(8, 4608, 1.0, f64::NAN), (13, 2, 0));
+    assert_eq!(run(8, 4608, 1.0, 1.0), None);
+}
