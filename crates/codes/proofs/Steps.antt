@@ -65,7 +65,7 @@ pub fewest-found : (W c h : ℕ) → h ≤ c → c < F W h → first (enough W c
 fewest-found W c h l m e =
     sym
     (⊎-elim
-    (λ q. first-ends (enough W c) c h (omega arith))
-    (λ s. first-hits (enough W c) c h s (le-leb (suc c) (F W h) m))
+    (λ q. first-ends (enough W c) c h h (omega arith))
+    (λ s. first-hits (enough W c) c h h s (le-leb (suc c) (F W h) m))
     (eq-or-lt-of-le l)) ∙
     e

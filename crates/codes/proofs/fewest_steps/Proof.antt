@@ -65,7 +65,7 @@ loop-again c =
       rw add-one (omega (arith, F-next (args .tracks) steps, held .3 steps (le-refl steps) (omega arith))),
       length-set (c .before .loop .lost) (steps % args .tracks) (c .before .loop .codes) ∙ held .2,
       subst (λ (v : ℕ). Ring (args .tracks) (set (c .before .loop .lost) (steps % args .tracks) v) (steps + 1)) (sym (held .1)) (ring-next (args .tracks) (c .before .before .pre .0) (c .before .loop .lost) steps (omega arith) (held .3)),
-      sym (first-goes (enough (args .tracks) (args .breaks)) (args .breaks) steps before (lt-leb (suc (args .breaks)) (F (args .tracks) steps) (omega arith))) ∙ held .4,
+      sym (first-goes (enough (args .tracks) (args .breaks)) (args .breaks) steps steps before (lt-leb (suc (args .breaks)) (F (args .tracks) steps) (omega arith))) ∙ held .4,
     )
 
 returns : tie.Need-returns Inv-loop μ-loop
