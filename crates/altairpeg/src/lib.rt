@@ -4,10 +4,27 @@ use yard::Answer;
 use yard::CardAnswer;
 use yard::PriceAnswer;
 use yard::Timings;
-ghost use Rattle.yard.specs.Night.{planOf};
-ghost use Rattle.yard.specs.Calls.{Checks};
+ghost use mathlib.Core.Path.{_≡_};
+ghost use Rattle.yard.specs.Night.{nightOf, planOf};
+ghost use Rattle.yard.specs.Codes.{fewestTracks};
+ghost use Rattle.yard.specs.Calls.{Derives, Checks};
 ghost use Rattle.yard.specs.Card.{Reads, Writes};
 ghost use Rattle.yard.specs.Price.{Prices};
+
+// Derive: the plan of a night with the fewest steps, its codes into the lent buffer, its steps and passes as the answer.
+#[no_mangle]
+pub extern "C" fn altairpeg_derive(
+    lengths: &[u16],
+    inbound: &[u16],
+    tracks: usize,
+    room: usize,
+    limit: usize,
+    codes: &mut [u16],
+) -> Answer
+    ensures { λ r. ⌜ Derives (nightOf (now (lengths .entry)) (now (inbound .entry)) tracks room) limit (now (codes .entry)) r (now (codes .exit)) ⌝ }
+{
+    derive::derive(lengths, inbound, tracks, room, limit, codes)
+}
 
 // Check: a plan offered by anyone, accepted or refused by its replay.
 #[no_mangle]
@@ -59,4 +76,12 @@ pub extern "C" fn altairpeg_price(steps: usize, passes: usize, timings: Timings)
     ensures { λ r. ⌜ Prices steps passes timings r ⌝ }
 {
     price::price(steps, passes, timings)
+}
+
+// The fewest tracks on which a car with this code is never pulled early.
+#[no_mangle]
+pub extern "C" fn altairpeg_fewest_tracks(code: u8) -> usize
+    ensures { λ r. ⌜ r ≡ fewestTracks 8 code ⌝ }
+{
+    codes::fewest_tracks(code)
 }

@@ -2,3 +2,4 @@
 pub mod Adding
 pub mod Numerals
 pub mod Listing
+pub mod Standing

@@ -1,5 +1,5 @@
 -- Laws of the lines: one car more, and one car of a track more at its place.
-use Prim.Native.Nat.{ℕ, _+_, _≤_, _<_}
+use Prim.Native.Nat.{ℕ, suc, _+_, _-_, _≤_, _<_}
 use mathlib.Core.Path.{_≡_, sym, ap, ap₂, _∙_}
 use mathlib.Core.Bool.{Bool, true, false, cond}
 use mathlib.Core.List.{List, [], _∷_, _++_, append-assoc, append-nil}
@@ -9,7 +9,7 @@ use lib.Dec.{eqb}
 use lib.ListN.{length, getD, take, drop, set, length-set, drop-of-length-le}
 use lib.Seq.{take-suc, drop-cons}
 use Rattle.report.specs.Text.{Adds}
-use Rattle.report.specs.Lines.{blank, named, carList, placed}
+use Rattle.report.specs.Lines.{blank, named, carList, trainLine, placed, frontFirst, eachTo, standingLine}
 use Rattle.report.proofs.Adding.{adds-then, adds-same}
 
 carList-snoc : (cars : List ℕ) (car : ℕ) → carList (cars ++ (car ∷ [])) ≡ carList cars ++ named blank car
@@ -44,3 +44,19 @@ placed-end track i tracks places into w = ap (λ l. placed track (i + 1) l (drop
 pub put-length : (put : Bool) (into last : List ℕ) (place car : ℕ) → last ≡ cond put (set into place car) into → length last ≡ length into
 put-length true into last place car e = ap length e ∙ length-set into place car
 put-length false into last place car e = ap length e
+
+each-next : (text : ℕ → List ℕ) (i : ℕ) → eachTo text i ++ text (i + 1) ≡ eachTo text (i + 1)
+each-next text i = ap (λ k. eachTo text i ++ text k) (add-one i) ∙ ap (eachTo text) (sym (add-one i))
+
+-- one train more, from the lists of tracks and places by car
+pub adds-train : {x y z : List ℕ} {at end last : ℕ} (lengths tracks places : List ℕ) (W i cars : ℕ)
+    → cars ≡ getD lengths i 0
+    → Adds (eachTo (standingLine lengths W tracks places) i) x at end y
+    → Adds (trainLine (i + 1) (frontFirst (W + i) cars tracks places)) y end last z
+    → Adds (eachTo (standingLine lengths W tracks places) (i + 1)) x at last z
+unfolding standingLine
+adds-train lengths tracks places W i cars e f g =
+    let next = i + 1 in
+    let same : frontFirst (W + i) cars tracks places ≡ frontFirst (W + next - 1) (getD lengths (next - 1) 0) tracks places =
+    ap₂ (λ (t n : ℕ). frontFirst t n tracks places) (omega arith) (e ∙ ap (λ k. getD lengths k 0) (omega arith)) in
+    adds-same (ap (λ l. eachTo (standingLine lengths W tracks places) i ++ trainLine next l) same ∙ each-next (standingLine lengths W tracks places) i) (adds-then f g)

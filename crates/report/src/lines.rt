@@ -131,15 +131,7 @@ pub fn trains(
 {
     let mut end = at;
     for i in 0..lengths.len() {
-        end = built(
-            text,
-            end,
-            i + 1,
-            tracks + i,
-            wide(lengths[i]),
-            on,
-            places,
-        );
+        end = built(text, end, i + 1, tracks + i, wide(lengths[i]), on, places);
     }
     end
 }
