@@ -7,7 +7,7 @@ use yard::Timings;
 ghost use mathlib.Core.Path.{_≡_};
 ghost use Rattle.yard.specs.Night.{nightOf, planOf};
 ghost use Rattle.yard.specs.Codes.{fewestTracks};
-ghost use Rattle.yard.specs.Calls.{Derives, Checks};
+ghost use Rattle.yard.specs.Calls.{Derives, Checks, Replays};
 ghost use Rattle.yard.specs.Card.{Reads, Writes};
 ghost use Rattle.yard.specs.Price.{Prices};
 
@@ -39,6 +39,24 @@ pub extern "C" fn altairpeg_check(
     ensures { λ r. ⌜ Checks (planOf (now (lengths .entry)) (now (inbound .entry)) tracks room steps (now (codes .entry))) r ⌝ }
 {
     plans::check(lengths, inbound, codes, tracks, room, steps)
+}
+
+// Replay: each car's track and place at a stage into the lent buffers, and the passes up to it as the answer.
+#[no_mangle]
+pub extern "C" fn altairpeg_replay(
+    lengths: &[u16],
+    inbound: &[u16],
+    codes: &[u16],
+    tracks: usize,
+    room: usize,
+    steps: usize,
+    stage: usize,
+    on: &mut [u16],
+    at: &mut [u16],
+) -> Answer
+    ensures { λ r. ⌜ Replays (planOf (now (lengths .entry)) (now (inbound .entry)) tracks room steps (now (codes .entry))) stage (now (on .entry)) (now (at .entry)) r (now (on .exit)) (now (at .exit)) ⌝ }
+{
+    plans::replay(lengths, inbound, codes, tracks, room, steps, stage, on, at)
 }
 
 // Read: a card's lengths, inbound numbers and codes into the lent buffers, and its numbers as the answer.

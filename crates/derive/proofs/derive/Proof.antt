@@ -1,4 +1,4 @@
--- The proof of `derive`.
+-- The proof of `derive`: the tests 1 to 4 refuse, or else the plan answers.
 use mathlib.Core.Path.{sym, ap, _∙_}
 use denote.Ref.{now}
 use borrow.Author.Needs.{needs}

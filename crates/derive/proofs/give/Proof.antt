@@ -1,7 +1,7 @@
 -- The proof of `give`: the numbers passed have become codes.
 use mathlib.Core.List.{append-nil, map}
 use mathlib.Core.Path.{_≡_, refl, ap, _∙_}
-use Prim.Native.Nat.{_-_, _≤_, _<_}
+use Prim.Native.Nat.{ℕ, _-_, _≤_, _<_}
 use native.Mathlib.Omega.{arith}
 use lib.Seq.{drop-length, take-length}
 use lib.ListN.{length, getD, take, length-set}
@@ -31,21 +31,24 @@ usable-codes-requires c κs = (c .before .before .pre .0, c .before .before .pre
 loop-holds : tie.Need-loop-holds Inv-loop μ-loop
 loop-holds c = (omega arith, refl, front-none (now (c .before .before .before .before .args .numbers)))
 
+abbrev entry : tie.After-slice-known2 Inv-loop μ-loop → tie.Start Inv-loop μ-loop
+entry c = c .before .before .before .before .before .before .before
+
 -- the number at hand is as it came, so it has a code
-number-known : (c : tie.After-slice-known2 Inv-loop μ-loop) → getD (c .before .before .loop .numbers) (c .before .before .loop .i) 0 ≡ getD (now (c .before .before .before .before .before .before .before .args .numbers)) (c .before .before .loop .i) 0
+abbrev number : tie.After-slice-known2 Inv-loop μ-loop → ℕ
+number c = getD (c .before .before .loop .numbers) (c .before .before .loop .i) 0
+
+number-known : (c : tie.After-slice-known2 Inv-loop μ-loop) → number c ≡ getD (now (entry c .args .numbers)) (c .before .before .loop .i) 0
 number-known c = front-behind (c .before .before .loop .inv .2)
 
-number-coded : (c : tie.After-slice-known2 Inv-loop μ-loop) → getD (c .before .before .loop .numbers) (c .before .before .loop .i) 0 < F (c .before .before .before .before .before .before .before .args .tracks) (c .before .before .before .before .before .before .before .args .steps)
-number-coded c =
-    let entry = c .before .before .before .before .before .before .before in
-    omega (arith, number-known c, entry .pre .2 .item (c .before .before .loop .i) (c .before .loop-test .taken))
+number-coded : (c : tie.After-slice-known2 Inv-loop μ-loop) → number c < F (entry c .args .tracks) (entry c .args .steps)
+number-coded c = omega (arith, number-known c, entry c .pre .2 .item (c .before .before .loop .i) (c .before .loop-test .taken))
 
 -- and there are no more codes than the table has room for
-number-fits : (c : tie.After-slice-known2 Inv-loop μ-loop) → getD (c .before .before .loop .numbers) (c .before .before .loop .i) 0 < 256
+number-fits : (c : tie.After-slice-known2 Inv-loop μ-loop) → number c < 256
 number-fits c =
     let called = c .before .before .before .before .usable-codes in
-    let entry = c .before .before .before .before .before .before .before in
-    omega (arith, number-coded c, F-usable (entry .args .tracks) (entry .args .steps) (entry .pre .0), called .ensures .number, front-fits (called .ensures), called .kept .1 .1 .0)
+    omega (arith, number-coded c, F-usable (entry c .args .tracks) (entry c .args .steps) (entry c .pre .0), called .ensures .number, front-fits (called .ensures), called .kept .1 .1 .0)
 
 cast-q : tie.Need-cast-q Inv-loop μ-loop
 cast-q c = omega (arith, number-fits c)
@@ -59,16 +62,14 @@ array-read-numbers c = number-fits c
 loop-again : tie.Need-loop-again Inv-loop μ-loop
 loop-again c =
     let at-loop = c .before .before in
-    let entry = at-loop .before .before .before .before .before in
-    let numbers = now (entry .args .numbers) in
+    let numbers = now (entry c .args .numbers) in
     let i = at-loop .loop .i in
-    let q = getD (at-loop .loop .numbers) i 0 in
-    let W = entry .args .tracks in
-    let h = entry .args .steps in
+    let W = entry c .args .tracks in
+    let h = entry c .args .steps in
     let called = at-loop .before .before .usable-codes in
     let held = at-loop .loop .inv in
-    let code : getD (called .last .1 .1 .0) q 0 ≡ codeNumber W h (getD numbers i 0) = table-code W h (entry .pre .0) (called .ensures) q (number-coded c) ∙ ap (codeNumber W h) (number-known c) in
-    (omega arith, length-set (at-loop .loop .numbers) i (getD (called .last .1 .1 .0) q 0) ∙ held .1, rw code (front-through (codeNumber W h) numbers (omega arith) (omega arith) (held .2)))
+    let code : getD (called .last .1 .1 .0) (number c) 0 ≡ codeNumber W h (getD numbers i 0) = table-code W h (entry c .pre .0) (called .ensures) (number c) (number-coded c) ∙ ap (codeNumber W h) (number-known c) in
+    (omega arith, length-set (at-loop .loop .numbers) i (getD (called .last .1 .1 .0) (number c) 0) ∙ held .1, rw code (front-through (codeNumber W h) numbers (omega arith) (omega arith) (held .2)))
 
 same-length : tie.Need-same-length Inv-loop μ-loop
 same-length c = c .before .loop .inv .1

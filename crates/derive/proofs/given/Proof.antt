@@ -1,4 +1,4 @@
--- The proof of `given`.
+-- The proof of `given`: each answer is that of the tests before those that come later.
 use mathlib.Core.Path.{ap₂, sym, ap, _∙_}
 use mathlib.Core.List.{[], _∷_}
 use lib.ListN.{length}

@@ -1,7 +1,7 @@
 -- The proof of `numbers`: the trains passed are counted.
 use mathlib.Core.Path.{_≡_, refl, sym, _∙_}
 use mathlib.Core.Logic.{⊎-elim}
-use Prim.Native.Nat.{_+_, _-_, max, _≤_}
+use Prim.Native.Nat.{ℕ, _+_, _-_, max, _≤_}
 use native.Mathlib.Omega.{arith}
 use lib.ListN.{length, getD}
 use denote.Ref.{now}
@@ -34,11 +34,17 @@ cast-cars c = omega (arith, c .shared-slice-known3 .given (c .before .before .lo
 slice-aggregate-train : tie.Need-slice-aggregate-train Inv-loop μ-loop
 slice-aggregate-train c = sym (c .before .before .before .before .before .places .kept .1 .0)
 
+abbrev entry : tie.At-loop Inv-loop μ-loop → tie.Start Inv-loop μ-loop
+entry c = c .before .before .before .before .before .before .before
+
 -- the train at hand has a car at least, and ends within the night
-within : (c : tie.In-loop Inv-loop μ-loop) → (1 ≤ getD (now (c .before .before .before .before .before .before .before .before .args .lengths)) (c .before .loop .t) 0) × (c .before .loop .before + getD (now (c .before .before .before .before .before .before .before .before .args .lengths)) (c .before .loop .t) 0 ≤ length (now (c .before .before .before .before .before .before .before .before .args .inbound)))
+abbrev cars : tie.At-loop Inv-loop μ-loop → ℕ
+cars c = getD (now (entry c .args .lengths)) (c .loop .t) 0
+
+within : (c : tie.In-loop Inv-loop μ-loop) → (1 ≤ cars (c .before)) × (c .before .loop .before + cars (c .before) ≤ length (now (entry (c .before) .args .inbound)))
 within c =
-    let entry = c .before .before .before .before .before .before .before .before in
-    train-within (now (entry .args .lengths)) (now (entry .args .inbound)) (entry .pre .0) (c .loop-test .taken) (c .before .loop .inv .2)
+    let night = entry (c .before) in
+    train-within (now (night .args .lengths)) (now (night .args .inbound)) (night .pre .0) (c .loop-test .taken) (c .before .loop .inv .2)
 
 train-requires : tie.Need-train-requires Inv-loop μ-loop
 train-requires c κs =
@@ -54,11 +60,11 @@ loop-again c =
     let called = c .before .before .before in
     let in-loop = called .before .before .before .before in
     let at-loop = in-loop .before in
-    let entry = at-loop .before .before .before .before .before .before .before in
+    let night = entry at-loop in
     let larger : c .if1 .most ≡ max (at-loop .loop .most) (called .train .result) = ⊎-elim (λ w. omega arith) (λ w. omega arith) (c .if1 .came) in (
       omega arith,
       called .train .kept .1 .1 .1 .0 ∙ at-loop .loop .inv .1,
-      rw larger (counted-next (now (entry .args .lengths)) (now (entry .args .inbound)) (entry .pre .0) (in-loop .loop-test .taken) (at-loop .loop .inv .2) (at-loop .before .before .places .ensures) (called .train .ensures)),
+      rw larger (counted-next (now (night .args .lengths)) (now (night .args .inbound)) (night .pre .0) (in-loop .loop-test .taken) (at-loop .loop .inv .2) (at-loop .before .before .places .ensures) (called .train .ensures)),
     )
 
 same-length : tie.Need-same-length Inv-loop μ-loop
@@ -66,8 +72,8 @@ same-length c = c .before .loop .inv .1
 
 returns : tie.Need-returns Inv-loop μ-loop
 returns c =
-    let entry = c .before .before .before .before .before .before .before .before in
-    counted-all (now (entry .args .lengths)) (now (entry .args .inbound)) (entry .pre .0) (omega arith) (omega arith) (c .before .loop .inv .2)
+    let night = entry (c .before) in
+    counted-all (now (night .args .lengths)) (now (night .args .inbound)) (night .pre .0) (omega arith) (omega arith) (c .before .loop .inv .2)
 
 pub numbers-spec : {M : Type 1} → statement M
 numbers-spec =

@@ -1,4 +1,4 @@
--- The proof of `plan`.
+-- The proof of `plan`: the steps are those that the night needs, and the codes given are those of the derived plan.
 use mathlib.Core.Path.{_≡_}
 use native.Mathlib.Omega.{arith}
 use denote.Ref.{now}

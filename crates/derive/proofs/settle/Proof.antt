@@ -1,4 +1,4 @@
--- The proof of `settle`.
+-- The proof of `settle`: the first step above the room, or else none, and the codes copied.
 use denote.Ref.{now}
 use borrow.Author.Needs.{needs}
 use Rattle.derive.proofs.Answered.{settles-full, settles-fits}

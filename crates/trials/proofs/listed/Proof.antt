@@ -2,8 +2,8 @@
 use Prim.Native.Nat.{_-_, _≤_}
 use native.Mathlib.Omega.{arith}
 use lib.ListN.{length}
-use Rattle.derive_trials.proofs.listed.Statement.{statement}
-use Rattle.derive_trials.proofs.listed.Tie as tie
+use Rattle.trials.proofs.listed.Statement.{statement}
+use Rattle.trials.proofs.listed.Tie as tie
 
 abbrev Inv-loop : tie.InvT-loop
 Inv-loop items i₀ i-end i = i ≤ length items

@@ -3,8 +3,8 @@ use mathlib.Core.Path.{_≡_, refl, _∙_}
 use Prim.Native.Nat.{_-_, _≤_}
 use native.Mathlib.Omega.{arith}
 use lib.ListN.{length, length-set}
-use Rattle.derive_trials.proofs.turned.Statement.{statement}
-use Rattle.derive_trials.proofs.turned.Tie as tie
+use Rattle.trials.proofs.turned.Statement.{statement}
+use Rattle.trials.proofs.turned.Tie as tie
 
 abbrev Inv-loop : tie.InvT-loop
 Inv-loop into₀ n i₀ into i = (i ≤ n) × (length into ≡ length into₀)

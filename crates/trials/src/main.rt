@@ -1,5 +1,6 @@
-// Runs trial nights of document 01 through `derive`: a line for each, with the number, A, B and what then stands at the front of the lent buffer.
-// The buffer holds 77 everywhere before each call.
+// Runs trial nights of document 01 through derive, check and replay to a stage: a line for each, with the number, A, B and what then stands at the front of each lent buffer.
+// The buffers hold 77 everywhere before each call.
+use yard::Answer;
 ghost use Prim.Native.Nat.{_≤_};
 ghost use lib.ListN.{length};
 
@@ -16,6 +17,19 @@ fn listed(items: &[u16]) {
     }
 }
 
+// Writes an answer.
+fn answered(r: Answer) {
+    told(r.number);
+    told(r.a);
+    told(r.b);
+}
+
+// Writes a night's name and ends the line.
+fn named(name: &[u8]) {
+    io::write_all(1, name);
+    io::write_all(1, b"\n");
+}
+
 // Derives a night within a limit, and writes the answer, so many items of the buffer, and the night's name.
 fn trial(
     name: &[u8],
@@ -30,13 +44,10 @@ fn trial(
 {
     let mut codes = [77u16; 512];
     let r = derive::derive(lengths, inbound, tracks, room, limit, &mut codes);
-    told(r.number);
-    told(r.a);
-    told(r.b);
+    answered(r);
     io::write_all(1, b"- ");
     listed(&codes[0..shown]);
-    io::write_all(1, name);
-    io::write_all(1, b"\n");
+    named(name);
 }
 
 // Writes the numbers from n down to 1 to the front of a list.
@@ -71,7 +82,71 @@ fn night_n(name: &[u8], tracks: usize, room: usize, limit: usize) {
     );
 }
 
+// Checks a plan with room for 512, and writes the answer and the plan's name.
+fn checked(
+    name: &[u8],
+    lengths: &[u16],
+    inbound: &[u16],
+    codes: &[u16],
+    tracks: usize,
+    steps: usize,
+) {
+    answered(plans::check(lengths, inbound, codes, tracks, 512, steps));
+    named(name);
+}
+
+// Replays a plan of the night N on two tracks, of two steps, to a stage, and writes the answer and seven items of each buffer.
+fn staged(name: &[u8], codes: &[u16], stage: usize) {
+    let mut on = [77u16; 8];
+    let mut at = [77u16; 8];
+    answered(plans::replay(
+        &[6u16],
+        &[3u16, 6, 1, 5, 2, 4],
+        codes,
+        2,
+        512,
+        2,
+        stage,
+        &mut on,
+        &mut at,
+    ));
+    io::write_all(1, b"- ");
+    listed(&on[0..7]);
+    io::write_all(1, b"- ");
+    listed(&at[0..7]);
+    named(name);
+}
+
+// Case 6, the plan that builds a train wrong, and cases 11 and 12.
+fn wrong_plans() {
+    let inbound = [3u16, 6, 1, 5, 2, 4];
+    checked(
+        b"6: car 3 with code 0",
+        &[6u16],
+        &inbound,
+        &[0u16, 0, 0, 1, 2, 3],
+        2,
+        2,
+    );
+    staged(b"6: the end", &[0u16, 0, 0, 1, 2, 3], 2);
+    checked(b"11: code 4 on two tracks", &[1u16], &[1u16], &[4u16], 2, 3);
+    checked(b"12: 1 1", &[2u16], &[1u16, 1], &[0u16, 0], 2, 1);
+}
+
+// The derived plan of case 1: checked, and replayed to each stage and past the last.
+fn good_plan() {
+    let inbound = [3u16, 6, 1, 5, 2, 4];
+    let codes = [0u16, 0, 1, 1, 2, 3];
+    checked(b"1: the derived plan", &[6u16], &inbound, &codes, 2, 2);
+    staged(b"2: stage 0", &codes, 0);
+    staged(b"3: stage 1", &codes, 1);
+    staged(b"the end", &codes, 2);
+    staged(b"past the end", &codes, 3);
+}
+
 fn main() {
+    good_plan();
+    wrong_plans();
     night_n(b"1: N", 2, 512, 8);
     night_n(b"4: N on one track", 1, 512, 8);
     night_n(b"5: N with room for 2", 2, 2, 8);
