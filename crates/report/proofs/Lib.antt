@@ -3,3 +3,4 @@ pub mod Adding
 pub mod Numerals
 pub mod Listing
 pub mod Standing
+pub mod Programs

@@ -1,6 +1,7 @@
 // What the two programs put out for a card: document 01's lines, and the card of the derived plan.
 pub mod text; // text.rt: pieces of text, one behind the other
 pub mod lines; // lines.rt: document 01's lines
+
 ghost use mathlib.Core.Path.{_≡_};
 ghost use lib.ListN.{length};
 ghost use Rattle.yard.specs.Night.{nightOf, planOf};
@@ -90,13 +91,7 @@ fn written(
 }
 
 // The card of the plan that is derived for a night with limit 8, or the refusal.
-fn derived(
-    lengths: &[u16],
-    inbound: &[u16],
-    tracks: usize,
-    room: usize,
-    out: &mut [u8],
-) -> usize
+fn derived(lengths: &[u16], inbound: &[u16], tracks: usize, room: usize, out: &mut [u8]) -> usize
     ensures { λ r. ⌜ Adds (derivedCard (length (now (out .entry))) (nightOf (now (lengths .entry)) (now (inbound .entry)) tracks room)) (now (out .entry)) 0 r (now (out .exit)) ⌝ }
 {
     let mut codes = [0u16; CARS];
