@@ -101,20 +101,12 @@ module _ (p : Plan) (f : Listed (p .night .lengths) (p .night .inbound)) (formed
   built-kept : (t : ℕ) → built p t ≡ keep (onTrain t) final
   unfolding built yardAt final onTrain
   built-kept t =
+      let W = p .night .tracks in
+      let h = p .steps in
+      let inbound = p .night .inbound in
+      let dest = destination (p .night) in
       standing-sorted W h (codeOf p) dest inbound h (le-refl h) (clean-of-never p never) (W + t - 1) ∙
       ap (λ (g : ℕ → ℕ). keep (λ c. eqb (W + t - 1) (g c)) (sorted (codeOf p) inbound h)) (fun-ext (target-last W h (codeOf p) dest))
-    where
-      W : ℕ
-      W = p .night .tracks
-
-      h : ℕ
-      h = p .steps
-
-      inbound : List ℕ
-      inbound = p .night .inbound
-
-      dest : ℕ → ℕ
-      dest = destination (p .night)
 
   on-train : (i car : ℕ) → trainOf (p .night .lengths) car ≡ suc i → onTrain (suc i) car ≡ true
   unfolding onTrain

@@ -1,16 +1,18 @@
 -- The trial nights of document 01 that are marked P: what the written meaning says, beside what the document says.
 use Prim.Native.Nat.{ℕ, _+_, _-_}
 use mathlib.Core.Bool.{Bool, true, _&&_}
-use mathlib.Core.List.{List, [], _∷_, _++_, reverse}
+use mathlib.Core.List.{List, [], _∷_, _++_, map, reverse}
 use lib.ListN.{length, take}
 use Rattle.yard.specs.declared.Answer.{Answer}
-use Rattle.yard.specs.Words.{same}
+use Rattle.yard.specs.Words.{same, upFrom}
 use Rattle.yard.specs.Limits.{limits}
 use Rattle.yard.specs.Night.{Night, Plan, nightOf, cars}
 use Rattle.yard.specs.Replay.{yardAt, built}
+use Rattle.yard.specs.Codes.{F, fewestTracks}
 use Rattle.yard.specs.Derived.{derivedCodes, derivedPlan}
 use Rattle.yard.specs.Answers.{written}
 use Rattle.yard.specs.Calls.{deriveAnswer, checkAnswer}
+use Rattle.yard.specs.Card.{card}
 
 -- a trial's case, what the meaning says, and what the document says
 pub record Trial : Type 0 where
@@ -76,6 +78,18 @@ trials =
     trial 11 (checks (plan (nightOf (1 ∷ []) (1 ∷ []) 2 512) 3 (4 ∷ []))) (8 ∷ 1 ∷ 0 ∷ []) ∷
     trial 12 (derives (nightOf (2 ∷ []) (1 ∷ 1 ∷ []) 2 512) 8) (3 ∷ 2 ∷ 0 ∷ []) ∷
     trial 13 (derives (nightN 1 512) 2) (5 ∷ 3 ∷ 0 ∷ []) ∷
+    []
+
+-- document 01's tables, and its card of case 1 with room for 3; the first number is the tracks, or 0
+unfoldable pub tables : List Trial
+unfolding nightN trial
+tables =
+    trial 1 (map (F 1) (upFrom 0 9)) (1 ∷ 2 ∷ 3 ∷ 4 ∷ 5 ∷ 6 ∷ 7 ∷ 8 ∷ 9 ∷ []) ∷
+    trial 2 (map (F 2) (upFrom 0 9)) (1 ∷ 2 ∷ 4 ∷ 7 ∷ 12 ∷ 20 ∷ 33 ∷ 54 ∷ 88 ∷ []) ∷
+    trial 3 (map (F 3) (upFrom 0 9)) (1 ∷ 2 ∷ 4 ∷ 8 ∷ 15 ∷ 28 ∷ 52 ∷ 96 ∷ 177 ∷ []) ∷
+    trial 8 (map (F 8) (upFrom 0 9)) (1 ∷ 2 ∷ 4 ∷ 8 ∷ 16 ∷ 32 ∷ 64 ∷ 128 ∷ 256 ∷ []) ∷
+    trial 0 (map (fewestTracks 8) (0 ∷ 4 ∷ 5 ∷ 9 ∷ 129 ∷ 128 ∷ [])) (1 ∷ 3 ∷ 2 ∷ 3 ∷ 7 ∷ 8 ∷ []) ∷
+    trial 0 (card (derivedPlan (nightN 2 3))) (18 ∷ 32 ∷ 12 ∷ 6 ∷ 2 ∷ 3 ∷ 0 ∷ 96 ∷ 48 ∷ 2 ∷ 2 ∷ 128 ∷ 64 ∷ 32 ∷ 45 ∷ 128 ∷ []) ∷
     []
 
 -- all of them agree
