@@ -1,0 +1,105 @@
+// The face: every public call under one roof, under the names by which C, Rust and Python link it.
+// None asks anything of its caller, and each promise is that of the call behind it, word for word. include/altairpeg.h tells the same to C.
+use yard::Answer;
+use yard::CardAnswer;
+use yard::PriceAnswer;
+use yard::Timings;
+ghost use mathlib.Core.Path.{_≡_};
+ghost use Rattle.yard.specs.Night.{nightOf, planOf};
+ghost use Rattle.yard.specs.Codes.{fewestTracks};
+ghost use Rattle.yard.specs.Calls.{Derives, Checks, Replays};
+ghost use Rattle.yard.specs.Card.{Reads, Writes};
+ghost use Rattle.yard.specs.Price.{Prices};
+
+// Derive: the plan of a night with the fewest steps, its codes into the lent buffer, its steps and passes as the answer.
+#[no_mangle]
+pub extern "C" fn altairpeg_derive(
+    lengths: &[u16],
+    inbound: &[u16],
+    tracks: usize,
+    room: usize,
+    limit: usize,
+    codes: &mut [u16],
+) -> Answer
+    ensures { λ r. ⌜ Derives (nightOf (now (lengths .entry)) (now (inbound .entry)) tracks room) limit (now (codes .entry)) r (now (codes .exit)) ⌝ }
+{
+    derive::derive(lengths, inbound, tracks, room, limit, codes)
+}
+
+// Check: a plan offered by anyone, accepted or refused by its replay.
+#[no_mangle]
+pub extern "C" fn altairpeg_check(
+    lengths: &[u16],
+    inbound: &[u16],
+    codes: &[u16],
+    tracks: usize,
+    room: usize,
+    steps: usize,
+) -> Answer
+    ensures { λ r. ⌜ Checks (planOf (now (lengths .entry)) (now (inbound .entry)) tracks room steps (now (codes .entry))) r ⌝ }
+{
+    plans::check(lengths, inbound, codes, tracks, room, steps)
+}
+
+// Replay: each car's track and place at a stage into the lent buffers, and the passes up to it as the answer.
+#[no_mangle]
+pub extern "C" fn altairpeg_replay(
+    lengths: &[u16],
+    inbound: &[u16],
+    codes: &[u16],
+    tracks: usize,
+    room: usize,
+    steps: usize,
+    stage: usize,
+    on: &mut [u16],
+    at: &mut [u16],
+) -> Answer
+    ensures { λ r. ⌜ Replays (planOf (now (lengths .entry)) (now (inbound .entry)) tracks room steps (now (codes .entry))) stage (now (on .entry)) (now (at .entry)) r (now (on .exit)) (now (at .exit)) ⌝ }
+{
+    plans::replay(lengths, inbound, codes, tracks, room, steps, stage, on, at)
+}
+
+// Read: a card's lengths, inbound numbers and codes into the lent buffers, and its numbers as the answer.
+#[no_mangle]
+pub extern "C" fn altairpeg_read(
+    card: &[u8],
+    lengths: &mut [u16],
+    inbound: &mut [u16],
+    codes: &mut [u16],
+) -> CardAnswer
+    ensures { λ r. ⌜ Reads (now (card .entry)) (now (lengths .entry)) (now (inbound .entry)) (now (codes .entry)) r (now (lengths .exit)) (now (inbound .exit)) (now (codes .exit)) ⌝ }
+{
+    card::read(card, lengths, inbound, codes)
+}
+
+// Write: the card of a plan into the lent buffer, and its length as the answer.
+#[no_mangle]
+pub extern "C" fn altairpeg_write(
+    lengths: &[u16],
+    inbound: &[u16],
+    codes: &[u16],
+    tracks: usize,
+    room: usize,
+    steps: usize,
+    card: &mut [u8],
+) -> Answer
+    ensures { λ r. ⌜ Writes (planOf (now (lengths .entry)) (now (inbound .entry)) tracks room steps (now (codes .entry))) (now (card .entry)) r (now (card .exit)) ⌝ }
+{
+    card::write(lengths, inbound, codes, tracks, room, steps, card)
+}
+
+// Price: steps times pull plus passes times push, as an exact double.
+#[no_mangle]
+pub extern "C" fn altairpeg_price(steps: usize, passes: usize, timings: Timings) -> PriceAnswer
+    ensures { λ r. ⌜ Prices steps passes timings r ⌝ }
+{
+    price::price(steps, passes, timings)
+}
+
+// The fewest tracks on which a car with this code is never pulled early.
+#[no_mangle]
+pub extern "C" fn altairpeg_fewest_tracks(code: u8) -> usize
+    ensures { λ r. ⌜ r ≡ fewestTracks 8 code ⌝ }
+{
+    codes::fewest_tracks(code)
+}

@@ -1,0 +1,69 @@
+-- Laws of text put at the front of a buffer: nothing, a byte, and one piece behind another.
+use Prim.Native.Nat.{ℕ, zero, suc, _+_, _≤_, _<_}
+use mathlib.Core.Path.{_≡_, refl, sym, ap, _∙_}
+use mathlib.Core.List.{List, [], _∷_, _++_, append-assoc, append-nil}
+use native.Mathlib.Numerals.{add-one}
+use native.Mathlib.Omega.{arith}
+use lib.ListN.{length, getD, take, drop, set, length-append, length-set}
+use lib.Seq.{length-take-le, take-all, take-nil, take-take, take-suc, take-suc-set, take-append-le, drop-cons}
+use Rattle.report.specs.Text.{Adds}
+
+-- what is left off once need not be looked at again
+take-over : (n : ℕ) (l m : List ℕ) → take n (take n l ++ m) ≡ take n (l ++ m)
+take-over zero l m = refl
+take-over (suc n) [] m = refl
+take-over (suc n) (x ∷ l) m = ap (λ k. x ∷ k) (take-over n l m)
+
+pub adds-none : (text : List ℕ) (at : ℕ) → at ≤ length text → Adds [] text at at text
+adds-none text at w =
+    record {
+      size = refl;
+      within = w;
+      text = sym (ap (take (length text)) (append-nil (take at text)) ∙ take-all (length text) (take at text) (omega (arith, length-take-le at text w)));
+    }
+
+pub adds-byte : (text : List ℕ) (at x : ℕ) → at < length text → Adds (x ∷ []) text at (at + 1) (set text at x)
+adds-byte text at x w =
+    let whole : take (at + 1) (set text at x) ≡ take at text ++ (x ∷ []) = ap (λ k. take k (set text at x)) (add-one at) ∙ take-suc-set text at x w in
+    record {
+      size = length-set text at x;
+      within = omega (arith, length-set text at x);
+      text = whole ∙ sym (take-all (length text) (take at text ++ (x ∷ [])) (omega (arith, length-append (take at text) (x ∷ []), length-take-le at text (omega arith))));
+    }
+
+-- a full buffer stays as it is
+pub adds-full : (text : List ℕ) (at : ℕ) (piece : List ℕ) → at ≡ length text → Adds piece text at at text
+adds-full text at piece e =
+    let n = length text in
+    let all : length (take at text) ≡ n = length-take-le at text (omega arith) ∙ e in
+    record {
+      size = refl;
+      within = omega arith;
+      text = sym (take-append-le n (take at text) piece (omega (arith, all)) ∙ take-all n (take at text) (omega (arith, all)));
+    }
+
+-- One piece behind another is one piece.
+pub adds-then : {a b x y z : List ℕ} {at end last : ℕ} → Adds a x at end y → Adds b y end last z → Adds (a ++ b) x at last z
+adds-then {a = a} {b = b} {x = x} {y = y} {at = at} {end = end} f g =
+    record {
+      size = g .size ∙ f .size;
+      within = g .within;
+      text =
+          g .text
+          ∙ ap (λ n. take n (take end y ++ b)) (f .size)
+          ∙ ap (λ l. take (length x) (l ++ b)) (f .text)
+          ∙ take-over (length x) (take at x ++ a) b
+          ∙ ap (take (length x)) (append-assoc (take at x) a b);
+    }
+
+-- the same piece, written another way
+pub adds-same : {a b x y : List ℕ} {at end : ℕ} → a ≡ b → Adds a x at end y → Adds b x at end y
+adds-same {x = x} {at = at} e f =
+    record { size = f .size; within = f .within; text = f .text ∙ ap (λ l. take (length x) (take at x ++ l)) e }
+
+-- a piece of which one item more is added, and the whole piece
+pub adds-next : {x y z : List ℕ} {at end last : ℕ} (piece : List ℕ) (i : ℕ) → i < length piece → Adds (take i piece) x at end y → Adds (getD piece i 0 ∷ []) y end last z → Adds (take (i + 1) piece) x at last z
+adds-next piece i w f g = adds-same (sym (ap (λ k. take k piece) (add-one i) ∙ take-suc piece i 0 w)) (adds-then f g)
+
+pub adds-all : {x y : List ℕ} {at end : ℕ} (piece : List ℕ) (i : ℕ) → length piece ≤ i → Adds (take i piece) x at end y → Adds piece x at end y
+adds-all piece i w f = adds-same (take-all i piece w) f

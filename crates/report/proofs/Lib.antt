@@ -1,0 +1,6 @@
+-- Laws that the proofs of this crate cite.
+pub mod Adding
+pub mod Numerals
+pub mod Listing
+pub mod Standing
+pub mod Programs

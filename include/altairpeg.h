@@ -1,0 +1,176 @@
+/* Altairpeg: multistage sorting plans derived, checked, replayed, priced and stored on night cards.
+ *
+ * Link with target/staticlib/libaltairpeg.a, which `rt staticlib altairpeg` makes.
+ *
+ * A night: the lengths of the outbound trains, the inbound order of the cars, the sorting tracks and the room on each.
+ * A plan: a night, its steps h, and one code for each car, in car order, a number below 2^h: bit k set means that the
+ * car is pulled in step k. Cars, trains and places in a list count from 1, tracks, steps and places on a track from 0.
+ *
+ * Every call takes any input: nothing is asked of the caller but that each pointer, unless its length is 0, points to as
+ * many items as the length behind it says, and that a buffer to be written overlaps no other list of the same call. No
+ * call allocates, keeps a pointer or holds state, so calls may run at the same time. A refused call writes nothing. An
+ * accepted one writes the items that its comment names, at the front of each buffer, and leaves all others as they were.
+ *
+ * What a call answers: a number, 0 where all is done, and two details A and B, 0 where unused.
+ *
+ *   No.  Given when                                           A, B
+ *    0   done                                                 as the call says
+ *    1   a count out of its range                             A: 1 cars, 2 trains, 3 tracks, 4 room, 5 steps or limit,
+ *                                                                6 stage above h, 7 passes
+ *    2   a train of length 0, or lengths not adding up to n   A: first such train, or 0 for the sum
+ *    3   inbound list not each car once                       A: first place with a number out of range or met before
+ *    4   a code list whose length isn't n, or a buffer to     A: 1 lengths, 2 inbound, 3 codes, 4 tracks, 5 places,
+ *        be written too short                                    6 card
+ *    5   derive: fewest steps above the limit                 A: fewest steps (may exceed 8)
+ *    6   a track overfilled                                   A: first such step, B: its cars
+ *    7   a code not below 2^h                                 A: first such car
+ *    8   a car pulled early                                   A: lowest car of the first such step, B: that step
+ *    9   trains out of order                                  A: lowest j+1 whose pair breaks the rule
+ *   10   card too short                                       A: bytes needed, as far as known
+ *   11   card edition not 1                                   A: edition
+ *   12   non-zero padding, or bytes after the end             A: the card's right length
+ *   13   a timing not allowed                                 A: 1 pull, 2 push
+ *
+ * Within 1, 4 and 13 the lowest A comes first; within 2 a length of 0 comes before the sum.
+ */
+#ifndef ALTAIRPEG_H
+#define ALTAIRPEG_H
+
+#include <stddef.h>
+#include <stdint.h>
+
+#ifdef __cplusplus
+extern "C" {
+#endif
+
+/* The ranges of the counts, and the length of the longest card. Steps and step limits are 0 to ALTAIRPEG_STEPS, passes
+ * to be priced 0 to ALTAIRPEG_PASSES, all others from 1 on. */
+#define ALTAIRPEG_CARS 512
+#define ALTAIRPEG_TRAINS 64
+#define ALTAIRPEG_TRACKS 8
+#define ALTAIRPEG_ROOM 512
+#define ALTAIRPEG_STEPS 8
+#define ALTAIRPEG_PASSES 4608
+#define ALTAIRPEG_CARD_BYTES 1237
+
+/* The numbers of the table above. */
+enum altairpeg_number {
+    ALTAIRPEG_DONE = 0,
+    ALTAIRPEG_COUNT_OUT_OF_RANGE = 1,
+    ALTAIRPEG_LENGTHS_WRONG = 2,
+    ALTAIRPEG_INBOUND_WRONG = 3,
+    ALTAIRPEG_LIST_OR_BUFFER_WRONG = 4,
+    ALTAIRPEG_LIMIT_TOO_LOW = 5,
+    ALTAIRPEG_TRACK_OVERFILLED = 6,
+    ALTAIRPEG_CODE_TOO_LARGE = 7,
+    ALTAIRPEG_CAR_PULLED_EARLY = 8,
+    ALTAIRPEG_TRAINS_OUT_OF_ORDER = 9,
+    ALTAIRPEG_CARD_TOO_SHORT = 10,
+    ALTAIRPEG_CARD_EDITION = 11,
+    ALTAIRPEG_CARD_END_WRONG = 12,
+    ALTAIRPEG_TIMING_NOT_ALLOWED = 13
+};
+
+/* A number and its two details. */
+typedef struct altairpeg_answer {
+    size_t number;
+    size_t a;
+    size_t b;
+} altairpeg_answer;
+
+/* What the card reader tells: a number and its details, then the card's h, W, C, n and m, all 0 where it refuses. */
+typedef struct altairpeg_card_answer {
+    size_t number;
+    size_t a;
+    size_t b;
+    size_t steps;
+    size_t tracks;
+    size_t room;
+    size_t cars;
+    size_t trains;
+} altairpeg_card_answer;
+
+/* Seconds for a pull-out, and seconds to push one car: each 0 to 4096 and a multiple of 1/16. */
+typedef struct altairpeg_timings {
+    double pull;
+    double push;
+} altairpeg_timings;
+
+/* A number and its details, and the price, positive zero where it is refused. */
+typedef struct altairpeg_price_answer {
+    size_t number;
+    size_t a;
+    size_t b;
+    double price;
+} altairpeg_price_answer;
+
+/* Derives the plan of a night with the fewest steps.
+ * Tests: 1 (cars, trains, tracks, room, limit), 2, 3, 4 (codes), 5, 6.
+ * Writes: the code of each car to the first n items of codes.
+ * Answers: A the steps, B the passes of the whole plan.
+ * 5 says that no plan that builds the trains keeps to the limit; 6 speaks of the derived plan alone. */
+altairpeg_answer altairpeg_derive(
+    const uint16_t *lengths, size_t lengths_len,
+    const uint16_t *inbound, size_t inbound_len,
+    size_t tracks, size_t room, size_t limit,
+    uint16_t *codes, size_t codes_len);
+
+/* Checks a plan offered by anyone, by its replay.
+ * Tests: 1 (cars, trains, tracks, room, steps), 2, 3, 4 (codes), 7, 8, 6, 9.
+ * Writes: nothing.
+ * Answers: A the passes, B the cars of the fullest pull, 0 where the plan has no steps. */
+altairpeg_answer altairpeg_check(
+    const uint16_t *lengths, size_t lengths_len,
+    const uint16_t *inbound, size_t inbound_len,
+    const uint16_t *codes, size_t codes_len,
+    size_t tracks, size_t room, size_t steps);
+
+/* Replays a plan to a stage: stage 0 is the yard after the first roll-in, stage s after s steps.
+ * Tests, always of the whole plan: 1 (cars, trains, tracks, room, steps, stage), 2, 3, 4 (codes, tracks, places), 7, 8, 6.
+ * Writes: each car's track to the first n items of on, tracks + train - 1 for the destination of a train; and its place
+ * there, from 0, the front, to the first n items of at.
+ * Answers: A the passes up to the stage, B 0. */
+altairpeg_answer altairpeg_replay(
+    const uint16_t *lengths, size_t lengths_len,
+    const uint16_t *inbound, size_t inbound_len,
+    const uint16_t *codes, size_t codes_len,
+    size_t tracks, size_t room, size_t steps, size_t stage,
+    uint16_t *on, size_t on_len,
+    uint16_t *at, size_t at_len);
+
+/* Reads a night card. It accepts plans that check would refuse.
+ * Tests: an empty card is 10 (A 1); 11; under 5 bytes is 10 (A 5); 1 (cars, trains, tracks, room, steps); shorter than
+ * the whole is 10; 4 (lengths, inbound, codes); 2; 3; 12.
+ * Writes: the first m items of lengths, the first n of inbound and of codes.
+ * Answers: the card's steps, tracks, room, cars and trains; A and B are 0. */
+altairpeg_card_answer altairpeg_read(
+    const uint8_t *card, size_t card_len,
+    uint16_t *lengths, size_t lengths_len,
+    uint16_t *inbound, size_t inbound_len,
+    uint16_t *codes, size_t codes_len);
+
+/* Writes the night card of a plan.
+ * Tests: 1 (cars, trains, tracks, room, steps), 2, 3, 4 (codes), 7, 4 (card).
+ * Writes: the card's bytes to the front of card.
+ * Answers: A the card's length in bytes, B 0. */
+altairpeg_answer altairpeg_write(
+    const uint16_t *lengths, size_t lengths_len,
+    const uint16_t *inbound, size_t inbound_len,
+    const uint16_t *codes, size_t codes_len,
+    size_t tracks, size_t room, size_t steps,
+    uint8_t *card, size_t card_len);
+
+/* Prices a night: steps times pull plus passes times push, exactly.
+ * Tests: 1 (steps, passes), 13 (pull, push).
+ * Writes: nothing.
+ * Answers: the price; A and B are 0. */
+altairpeg_price_answer altairpeg_price(size_t steps, size_t passes, altairpeg_timings timings);
+
+/* The fewest tracks, 1 to 8, on which a car with this code is never pulled early. It refuses nothing. */
+size_t altairpeg_fewest_tracks(uint8_t code);
+
+#ifdef __cplusplus
+}
+#endif
+
+#endif

@@ -1,0 +1,308 @@
+//! Multistage sorting plans, derived, checked, replayed, priced and stored on night cards.
+//!
+//! A safe wrapper over the proved library: lists in, a result with named fields out, and a
+//! [`Refusal`] with the paper's number, details and words where a call refuses.
+//!
+//! ```
+//! use altairpeg::{check, derive, Night, Plan};
+//!
+//! let night = Night { lengths: &[6], inbound: &[3, 6, 1, 5, 2, 4], tracks: 2, room: 3 };
+//! let derived = derive(night, 8)?;
+//! assert_eq!((derived.steps, derived.passes), (2, 11));
+//! assert_eq!(derived.codes, [0, 0, 1, 1, 2, 3]);
+//!
+//! let plan = Plan { night, steps: derived.steps, codes: &derived.codes };
+//! assert_eq!(check(plan)?.fullest_pull, 3);
+//! # Ok::<(), altairpeg::Refusal>(())
+//! ```
+
+mod ffi;
+mod refusal;
+
+use ffi::Answer;
+pub use refusal::Refusal;
+
+/// The most cars of a night.
+pub const CARS: usize = 512;
+/// The most trains of a night.
+pub const TRAINS: usize = 64;
+/// The bytes of the longest card.
+pub const CARD_BYTES: usize = 1237;
+
+/// A night: the lengths of the outbound trains, the inbound order of the cars, the sorting tracks
+/// and the room on each.
+#[derive(Clone, Copy, Debug, PartialEq, Eq)]
+pub struct Night<'a> {
+    pub lengths: &'a [u16],
+    pub inbound: &'a [u16],
+    pub tracks: usize,
+    pub room: usize,
+}
+
+/// A plan: a night, its steps, and one code for each car, in car order.
+#[derive(Clone, Copy, Debug, PartialEq, Eq)]
+pub struct Plan<'a> {
+    pub night: Night<'a>,
+    pub steps: usize,
+    pub codes: &'a [u16],
+}
+
+/// A derived plan: its steps, the hump passes of the whole plan, and the code of each car.
+#[derive(Clone, Debug, PartialEq, Eq)]
+pub struct Derived {
+    pub steps: usize,
+    pub passes: usize,
+    pub codes: Vec<u16>,
+}
+
+/// What check says of an accepted plan: its hump passes, and the cars of its fullest pull.
+#[derive(Clone, Copy, Debug, PartialEq, Eq)]
+pub struct Checked {
+    pub passes: usize,
+    pub fullest_pull: usize,
+}
+
+/// The yard at a stage: the passes so far, and each car's track and place there, in car order.
+///
+/// The destination of train t is track `tracks + t - 1`; the place at the front is 0.
+#[derive(Clone, Debug, PartialEq, Eq)]
+pub struct Stage {
+    pub passes: usize,
+    pub tracks: Vec<u16>,
+    pub places: Vec<u16>,
+}
+
+impl Stage {
+    /// The cars on a track, front first.
+    ///
+    /// ```
+    /// use altairpeg::{replay, Night, Plan};
+    ///
+    /// let night = Night { lengths: &[6], inbound: &[3, 6, 1, 5, 2, 4], tracks: 2, room: 3 };
+    /// let plan = Plan { night, steps: 2, codes: &[0, 0, 1, 1, 2, 3] };
+    /// assert_eq!(replay(plan, 0)?.cars_on(0), [3, 6, 4]);
+    /// assert_eq!(replay(plan, 2)?.cars_on(2), [1, 2, 3, 4, 5, 6]);
+    /// # Ok::<(), altairpeg::Refusal>(())
+    /// ```
+    pub fn cars_on(&self, track: usize) -> Vec<u16> {
+        let mut standing: Vec<(u16, u16)> = (1..)
+            .zip(self.tracks.iter().zip(&self.places))
+            .filter(|(_, (&on, _))| usize::from(on) == track)
+            .map(|(car, (_, &place))| (place, car))
+            .collect();
+        standing.sort_unstable();
+        standing.into_iter().map(|(_, car)| car).collect()
+    }
+}
+
+/// What a night card says.
+#[derive(Clone, Debug, PartialEq, Eq)]
+pub struct Card {
+    pub lengths: Vec<u16>,
+    pub inbound: Vec<u16>,
+    pub tracks: usize,
+    pub room: usize,
+    pub steps: usize,
+    pub codes: Vec<u16>,
+}
+
+impl Card {
+    /// The night of the card.
+    pub fn night(&self) -> Night<'_> {
+        Night {
+            lengths: &self.lengths,
+            inbound: &self.inbound,
+            tracks: self.tracks,
+            room: self.room,
+        }
+    }
+
+    /// The plan of the card.
+    pub fn plan(&self) -> Plan<'_> {
+        Plan {
+            night: self.night(),
+            steps: self.steps,
+            codes: &self.codes,
+        }
+    }
+}
+
+/// Seconds for a pull-out, and seconds to push one car: each 0 to 4096 and a multiple of 1/16.
+#[repr(C)]
+#[derive(Clone, Copy, Debug, PartialEq)]
+pub struct Timings {
+    pub pull: f64,
+    pub push: f64,
+}
+
+/// The answer where all is done, and else the refusal.
+fn done(answer: Answer) -> Result<Answer, Refusal> {
+    let Answer { number, a, b } = answer;
+    match number {
+        0 => Ok(answer),
+        _ => Err(Refusal { number, a, b }),
+    }
+}
+
+// SAFETY, for every call below: each pointer comes from a slice and goes with its length, the
+// slices written are lent mutably and so overlap no other, and the library keeps no pointer.
+
+/// Derives the plan with the fewest steps; refuses 1, 2, 3, 5 or 6.
+///
+/// 5 says that no plan that builds the trains keeps to the limit; 6 speaks of the derived plan alone.
+pub fn derive(night: Night, limit: usize) -> Result<Derived, Refusal> {
+    let mut codes = vec![0; night.inbound.len()];
+    let answer = done(unsafe {
+        ffi::altairpeg_derive(
+            night.lengths.as_ptr(),
+            night.lengths.len(),
+            night.inbound.as_ptr(),
+            night.inbound.len(),
+            night.tracks,
+            night.room,
+            limit,
+            codes.as_mut_ptr(),
+            codes.len(),
+        )
+    })?;
+    Ok(Derived {
+        steps: answer.a,
+        passes: answer.b,
+        codes,
+    })
+}
+
+/// Checks a plan offered by anyone, by its replay; refuses 1, 2, 3, 4, 7, 8, 6 or 9.
+pub fn check(plan: Plan) -> Result<Checked, Refusal> {
+    let answer = done(unsafe {
+        ffi::altairpeg_check(
+            plan.night.lengths.as_ptr(),
+            plan.night.lengths.len(),
+            plan.night.inbound.as_ptr(),
+            plan.night.inbound.len(),
+            plan.codes.as_ptr(),
+            plan.codes.len(),
+            plan.night.tracks,
+            plan.night.room,
+            plan.steps,
+        )
+    })?;
+    Ok(Checked {
+        passes: answer.a,
+        fullest_pull: answer.b,
+    })
+}
+
+/// Replays a plan to a stage; refuses as [`check`] does, but not 9, and a stage above the steps with 1.
+///
+/// Stage 0 is the yard after the first roll-in, stage s after s steps.
+pub fn replay(plan: Plan, stage: usize) -> Result<Stage, Refusal> {
+    let mut tracks = vec![0; plan.night.inbound.len()];
+    let mut places = vec![0; plan.night.inbound.len()];
+    let answer = done(unsafe {
+        ffi::altairpeg_replay(
+            plan.night.lengths.as_ptr(),
+            plan.night.lengths.len(),
+            plan.night.inbound.as_ptr(),
+            plan.night.inbound.len(),
+            plan.codes.as_ptr(),
+            plan.codes.len(),
+            plan.night.tracks,
+            plan.night.room,
+            plan.steps,
+            stage,
+            tracks.as_mut_ptr(),
+            tracks.len(),
+            places.as_mut_ptr(),
+            places.len(),
+        )
+    })?;
+    Ok(Stage {
+        passes: answer.a,
+        tracks,
+        places,
+    })
+}
+
+/// Reads a night card; refuses 10, 11, 1, 2, 3 or 12. It accepts plans that [`check`] would refuse.
+///
+/// ```
+/// let card = altairpeg::read_card(&[
+///     0x12, 0x20, 0x0C, 0x06, 0x02, 0x03, 0x00, 0x60, 0x30, 0x02, 0x02, 0x80, 0x40, 0x20, 0x2D, 0x80,
+/// ])?;
+/// assert_eq!(card.inbound, [3, 6, 1, 5, 2, 4]);
+/// assert_eq!(altairpeg::write_card(card.plan())?.len(), 16);
+/// # Ok::<(), altairpeg::Refusal>(())
+/// ```
+pub fn read_card(card: &[u8]) -> Result<Card, Refusal> {
+    let mut lengths = vec![0; TRAINS];
+    let mut inbound = vec![0; CARS];
+    let mut codes = vec![0; CARS];
+    let told = unsafe {
+        ffi::altairpeg_read(
+            card.as_ptr(),
+            card.len(),
+            lengths.as_mut_ptr(),
+            lengths.len(),
+            inbound.as_mut_ptr(),
+            inbound.len(),
+            codes.as_mut_ptr(),
+            codes.len(),
+        )
+    };
+    done(told.answer)?;
+    lengths.truncate(told.trains);
+    inbound.truncate(told.cars);
+    codes.truncate(told.cars);
+    Ok(Card {
+        lengths,
+        inbound,
+        tracks: told.tracks,
+        room: told.room,
+        steps: told.steps,
+        codes,
+    })
+}
+
+/// Writes the night card of a plan; refuses 1, 2, 3, 4 or 7.
+pub fn write_card(plan: Plan) -> Result<Vec<u8>, Refusal> {
+    let mut card = vec![0; CARD_BYTES];
+    let answer = done(unsafe {
+        ffi::altairpeg_write(
+            plan.night.lengths.as_ptr(),
+            plan.night.lengths.len(),
+            plan.night.inbound.as_ptr(),
+            plan.night.inbound.len(),
+            plan.codes.as_ptr(),
+            plan.codes.len(),
+            plan.night.tracks,
+            plan.night.room,
+            plan.steps,
+            card.as_mut_ptr(),
+            card.len(),
+        )
+    })?;
+    card.truncate(answer.a);
+    Ok(card)
+}
+
+/// Prices a night, exactly: steps times pull plus passes times push; refuses 1 or 13.
+///
+/// ```
+/// let timings = altairpeg::Timings { pull: 1.5, push: 0.25 };
+/// assert_eq!(altairpeg::price(2, 11, timings), Ok(5.75));
+/// assert_eq!(altairpeg::price(9, 11, timings).unwrap_err().a, 5);
+/// ```
+pub fn price(steps: usize, passes: usize, timings: Timings) -> Result<f64, Refusal> {
+    let told = unsafe { ffi::altairpeg_price(steps, passes, timings) };
+    done(told.answer).map(|_| told.price)
+}
+
+/// The fewest tracks on which a car with this code is never pulled early.
+///
+/// ```
+/// assert_eq!([0, 4, 5, 9, 129, 128].map(altairpeg::fewest_tracks), [1, 3, 2, 3, 7, 8]);
+/// ```
+pub fn fewest_tracks(code: u8) -> usize {
+    unsafe { ffi::altairpeg_fewest_tracks(code) }
+}

@@ -1,0 +1,163 @@
+//! The trial nights of document 01, each under its number, through the archive.
+
+use altairpeg::{check, derive, read_card, replay, write_card, Night, Plan, Refusal};
+
+const N: [u16; 6] = [3, 6, 1, 5, 2, 4];
+
+/// Night N, one train.
+fn n(tracks: usize, room: usize) -> Night<'static> {
+    night(&[6], &N, tracks, room)
+}
+
+fn night<'a>(lengths: &'a [u16], inbound: &'a [u16], tracks: usize, room: usize) -> Night<'a> {
+    Night {
+        lengths,
+        inbound,
+        tracks,
+        room,
+    }
+}
+
+/// Cars n to 1.
+fn reversed(n: u16) -> Vec<u16> {
+    (1..=n).rev().collect()
+}
+
+fn refused(number: usize, a: usize, b: usize) -> Refusal {
+    Refusal { number, a, b }
+}
+
+fn steps(night: Night) -> usize {
+    derive(night, 8).expect("derived").steps
+}
+
+#[test]
+fn case_1_n_on_two_tracks() {
+    let derived = derive(n(2, 512), 8).unwrap();
+    assert_eq!(derived.steps, 2);
+    assert_eq!(derived.codes, [0, 0, 1, 1, 2, 3]);
+    assert_eq!(derived.passes, 11);
+}
+
+#[test]
+fn cases_2_and_3_the_stages_of_case_1() {
+    let plan = Plan {
+        night: n(2, 512),
+        steps: 2,
+        codes: &[0, 0, 1, 1, 2, 3],
+    };
+    let first = replay(plan, 0).unwrap();
+    assert_eq!(first.cars_on(0), [3, 6, 4]);
+    assert_eq!(first.cars_on(1), [5]);
+    assert_eq!(first.cars_on(2), [1, 2]);
+    assert_eq!(first.passes, 6);
+    let second = replay(plan, 1).unwrap();
+    assert_eq!(second.cars_on(0), []);
+    assert_eq!(second.cars_on(1), [5, 6]);
+    assert_eq!(second.cars_on(2), [1, 2, 3, 4]);
+    assert_eq!(replay(plan, 3), Err(refused(1, 6, 0)));
+}
+
+#[test]
+fn case_4_n_on_one_track() {
+    let derived = derive(n(1, 512), 8).unwrap();
+    assert_eq!(derived.steps, 3);
+    assert_eq!(derived.codes, [0, 0, 1, 1, 3, 7]);
+    assert_eq!(derived.passes, 13);
+}
+
+#[test]
+fn case_5_room() {
+    assert_eq!(derive(n(2, 2), 8), Err(refused(6, 0, 3)));
+    assert!(derive(n(2, 3), 8).is_ok());
+}
+
+#[test]
+fn case_6_a_plan_that_builds_another_order() {
+    let plan = Plan {
+        night: n(2, 512),
+        steps: 2,
+        codes: &[0, 0, 0, 1, 2, 3],
+    };
+    assert_eq!(replay(plan, 2).unwrap().cars_on(2), [3, 1, 2, 4, 5, 6]);
+    assert_eq!(check(plan), Err(refused(9, 3, 0)));
+}
+
+#[test]
+fn case_7_one_car() {
+    let derived = derive(night(&[1], &[1], 2, 512), 8).unwrap();
+    assert_eq!((derived.steps, derived.passes), (0, 1));
+    assert_eq!(derived.codes, [0]);
+}
+
+#[test]
+fn case_8_two_cars() {
+    assert_eq!(steps(night(&[1, 1], &[2, 1], 2, 512)), 0);
+    assert_eq!(steps(night(&[2], &[2, 1], 2, 512)), 1);
+}
+
+#[test]
+fn case_9_seven_reversed() {
+    let derived = derive(night(&[7], &reversed(7), 2, 512), 8).unwrap();
+    assert_eq!(derived.steps, 3);
+    assert_eq!(derived.codes, [0, 1, 2, 3, 5, 6, 7]);
+}
+
+#[test]
+fn case_10_eight_reversed() {
+    assert_eq!(steps(night(&[8], &reversed(8), 2, 512)), 4);
+    assert_eq!(steps(night(&[8], &reversed(8), 3, 512)), 3);
+}
+
+#[test]
+fn case_11_pulled_early() {
+    let plan = Plan {
+        night: night(&[1], &[1], 2, 512),
+        steps: 3,
+        codes: &[4],
+    };
+    assert_eq!(check(plan), Err(refused(8, 1, 0)));
+}
+
+#[test]
+fn case_12_a_car_twice() {
+    assert_eq!(derive(night(&[2], &[1, 1], 2, 512), 8), Err(refused(3, 2, 0)));
+}
+
+#[test]
+fn case_13_a_limit_too_low() {
+    assert_eq!(derive(n(1, 512), 2), Err(refused(5, 3, 0)));
+}
+
+#[test]
+fn case_14_reversed_on_eight_tracks() {
+    assert_eq!(
+        derive(night(&[257], &reversed(257), 8, 512), 8),
+        Err(refused(5, 9, 0))
+    );
+    assert_eq!(steps(night(&[256], &reversed(256), 8, 512)), 8);
+}
+
+#[test]
+fn the_card_of_case_1_there_and_back() {
+    let bytes = [
+        0x12, 0x20, 0x0C, 0x06, 0x02, 0x03, 0x00, 0x60, 0x30, 0x02, 0x02, 0x80, 0x40, 0x20, 0x2D,
+        0x80,
+    ];
+    let card = read_card(&bytes).unwrap();
+    assert_eq!(card.inbound, N);
+    assert_eq!((card.steps, card.tracks, card.room), (2, 2, 3));
+    assert_eq!(write_card(card.plan()).unwrap(), bytes);
+    assert_eq!(read_card(&[]), Err(refused(10, 1, 0)));
+    assert_eq!(read_card(&bytes[..15]), Err(refused(10, 16, 0)));
+}
+
+#[test]
+fn a_refusal_in_words() {
+    let refusal = derive(n(1, 512), 2).unwrap_err();
+    assert_eq!(
+        refusal.to_string(),
+        "refused 5 3 0: fewest steps above the limit (fewest steps 3)"
+    );
+    assert_eq!(refused(4, 6, 0).details(), "card");
+}
