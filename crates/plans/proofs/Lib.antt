@@ -1,5 +1,7 @@
 -- Laws that the proofs of this crate cite.
 pub mod Closed
+pub mod Usable
+pub mod Roomy
 pub mod Replayed
 pub mod Stages
 pub mod Chain

@@ -9,10 +9,10 @@ ghost use Rattle.yard.specs.Limits.{limits};
 ghost use Rattle.yard.specs.Night.{planOf};
 ghost use Rattle.yard.specs.Answers.{says, verdict};
 ghost use Rattle.yard.specs.Calls.{Checks, Replays};
-ghost use Rattle.yard.specs.Demands.{Listed};
+ghost use Rattle.yard.specs.Demands.{Listed, CodesBelow};
 ghost use Rattle.sorting.specs.Early.{earlyFound};
 ghost use Rattle.sorting.specs.Sums.{setBelow, mostNamed};
-ghost use Rattle.plans.specs.Closed.{givenTests, earlyAnswer, fullTest, soundTests, firstPair, pairTest, Counted, placedTests, Placeable, Placed};
+ghost use Rattle.plans.specs.Closed.{givenTests, earlyAnswer, OfEight, firstWider, waitTest, fullTest, soundTests, firstPair, pairTest, Counted, placedTests, Placeable, Placed};
 
 // 2, 3 and 4: the lists of a plan.
 fn given(lengths: &[u16], inbound: &[u16], codes: &[u16]) -> Answer
@@ -35,6 +35,30 @@ fn early(codes: &[u16], tracks: usize, steps: usize) -> Answer
     }
 }
 
+// The index of the first code that needs more tracks than these, or the number of codes where none does.
+fn first_wider(codes: &[u16], tracks: usize) -> usize
+    requires { ⌜ OfEight (now codes) ⌝ }
+    ensures { λ r. ⌜ r ≡ firstWider tracks (now (codes .entry)) ⌝ }
+{
+    for i in 0..codes.len() {
+        if tracks < codes::fewest_tracks(codes[i] as u8) {
+            return i;
+        }
+    }
+    codes.len()
+}
+
+// 8 for codes below 2 to the steps: the table's word for each code comes first, and the search only where it does not do.
+fn kept(codes: &[u16], tracks: usize, steps: usize) -> Answer
+    requires { ⌜ (0 < tracks) × (steps ≤ 8) × CodesBelow steps (now codes) ⌝ }
+    ensures { λ r. ⌜ r ≡ waitTest tracks steps (now (codes .entry)) ⌝ }
+{
+    if first_wider(codes, tracks) < codes.len() {
+        return early(codes, tracks, steps);
+    }
+    intake::answer(0, 0, 0)
+}
+
 // 6: no track overfilled, or else the first such step and its cars.
 fn full(codes: &[u16], room: usize, steps: usize) -> Answer
     requires { ⌜ steps ≤ 16 ⌝ }
@@ -48,20 +72,31 @@ fn full(codes: &[u16], room: usize, steps: usize) -> Answer
     }
 }
 
+// 6: a step can find too many cars only where the night has more cars than there is room for.
+fn fits(codes: &[u16], room: usize, steps: usize) -> Answer
+    requires { ⌜ steps ≤ 16 ⌝ }
+    ensures { λ r. ⌜ r ≡ fullTest room steps (now (codes .entry)) ⌝ }
+{
+    if room < codes.len() {
+        return full(codes, room, steps);
+    }
+    intake::answer(0, 0, 0)
+}
+
 // 7, 8 and 6: what the codes alone can break.
 fn sound(codes: &[u16], tracks: usize, room: usize, steps: usize) -> Answer
-    requires { ⌜ (0 < tracks) × (steps ≤ 16) ⌝ }
+    requires { ⌜ (0 < tracks) × (steps ≤ 8) ⌝ }
     ensures { λ r. ⌜ r ≡ verdict (soundTests tracks room steps (now (codes .entry))) (says 0 0 0) ⌝ }
 {
     let below = intake::codes(codes, steps);
     if below.number != 0 {
         return below;
     }
-    let kept = early(codes, tracks, steps);
-    if kept.number != 0 {
-        return kept;
+    let pulled = kept(codes, tracks, steps);
+    if pulled.number != 0 {
+        return pulled;
     }
-    full(codes, room, steps)
+    fits(codes, room, steps)
 }
 
 // The lowest car that breaks the rule with the next, or the last car where there is none.

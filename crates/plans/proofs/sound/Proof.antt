@@ -1,14 +1,15 @@
 -- The proof of `sound`: each test in its turn.
-use mathlib.Core.Path.{_∙_}
+use mathlib.Core.Path.{sym, ap, _∙_}
 use mathlib.Core.List.{[], _∷_}
 use denote.Ref.{now}
 use native.Mathlib.Nat.{suc-ne-zero}
 use lib.Dec.{leb}
+use Rattle.yard.specs.declared.Answer.{Answer}
 use Rattle.yard.specs.Answers.{says, codeTest}
+use Rattle.yard.proofs.Demands.{codes-passed}
 use Rattle.yard.proofs.Verdict.{stops, goes-on, last-is}
 use Rattle.sorting.specs.Sums.{named, firstAbove}
 use Rattle.plans.specs.Closed.{waitTest, fullTest}
-use Rattle.plans.proofs.Closed.{told-early}
 use borrow.Author.Needs.{needs}
 use Rattle.plans.proofs.sound.Statement.{statement}
 use Rattle.plans.proofs.sound.Tie as tie
@@ -22,32 +23,35 @@ returns c =
     let codes = now (args .codes) in
     stops (codeTest (args .steps) codes) (waitTest (args .tracks) (args .steps) codes ∷ fullTest (args .room) (args .steps) codes ∷ []) (says 0 0 0) (c .before .before .codes .result) (c .before .before .codes .ensures) (c .if1 .taken)
 
-early-requires : tie.Need-early-requires
-early-requires c κs = search needs
+kept-requires : tie.Need-kept-requires
+kept-requires c κs =
+    let at = c .before .before .before .before in
+    let below = c .before .before .codes in
+    (at .pre .0, at .pre .1, codes-passed (at .args .steps) (now (at .args .codes)) .0 (sym (ap (λ (v : Answer). v .number) (below .ensures)) ∙ c .if1 .left))
 
 returns-2 : tie.Need-returns-2
 returns-2 c =
     let args = c .before .before .before .before .before .before .before .args in
     let codes = now (args .codes) in
     let below = c .before .before .before .before .before .codes in
-    let kept = c .before .before .early in
+    let kept = c .before .before .kept in
     goes-on (codeTest (args .steps) codes) (waitTest (args .tracks) (args .steps) codes ∷ fullTest (args .room) (args .steps) codes ∷ []) (says 0 0 0) (below .result) (below .ensures) (kept .result) (c .before .before .before .if1 .left)
-    (stops (waitTest (args .tracks) (args .steps) codes) (fullTest (args .room) (args .steps) codes ∷ []) (says 0 0 0) (kept .result) (kept .ensures ∙ told-early (args .tracks) (args .steps) codes) (c .if2 .taken))
+    (stops (waitTest (args .tracks) (args .steps) codes) (fullTest (args .room) (args .steps) codes ∷ []) (says 0 0 0) (kept .result) (kept .ensures) (c .if2 .taken))
 
-full-requires : tie.Need-full-requires
-full-requires c κs = search needs
+fits-requires : tie.Need-fits-requires
+fits-requires c κs = search needs
 
 returns-3 : tie.Need-returns-3
 returns-3 c =
     let args = c .before .before .before .before .before .before .before .before .args in
     let codes = now (args .codes) in
     let below = c .before .before .before .before .before .before .codes in
-    let kept = c .before .before .before .early in
+    let kept = c .before .before .before .kept in
     let above = firstAbove (args .room) codes (args .steps) in
-    goes-on (codeTest (args .steps) codes) (waitTest (args .tracks) (args .steps) codes ∷ fullTest (args .room) (args .steps) codes ∷ []) (says 0 0 0) (below .result) (below .ensures) (c .full .result) (c .before .before .before .before .if1 .left)
-    (goes-on (waitTest (args .tracks) (args .steps) codes) (fullTest (args .room) (args .steps) codes ∷ []) (says 0 0 0) (kept .result) (kept .ensures ∙ told-early (args .tracks) (args .steps) codes) (c .full .result) (c .before .if2 .left)
-    (c .full .ensures ∙ last-is (leb (args .steps) above) (says 6 above (named codes above)) (suc-ne-zero 5)))
+    goes-on (codeTest (args .steps) codes) (waitTest (args .tracks) (args .steps) codes ∷ fullTest (args .room) (args .steps) codes ∷ []) (says 0 0 0) (below .result) (below .ensures) (c .fits2 .result) (c .before .before .before .before .if1 .left)
+    (goes-on (waitTest (args .tracks) (args .steps) codes) (fullTest (args .room) (args .steps) codes ∷ []) (says 0 0 0) (kept .result) (kept .ensures) (c .fits2 .result) (c .before .if2 .left)
+    (c .fits2 .ensures ∙ last-is (leb (args .steps) above) (says 6 above (named codes above)) (suc-ne-zero 5)))
 
 pub sound-spec : {M : Type 1} → statement M
 sound-spec =
-    tie.close (tie.spec codes-requires returns early-requires returns-2 full-requires returns-3)
+    tie.close (tie.spec codes-requires returns kept-requires returns-2 fits-requires returns-3)

@@ -1,0 +1,65 @@
+-- Where the table says of every code that it needs no more tracks than there are, the search finds no early pull.
+use mathlib.Core.Path.{_≡_, refl, sym, ap, _∙_, subst}
+use mathlib.Core.Bool.{Bool, true, false, not, _&&_}
+use mathlib.Core.List.{List}
+use Prim.Native.Nat.{ℕ, suc, _+_, _-_, _%_, _^_, _≤_, _<_}
+use native.Mathlib.Nat.{lt-of-lt-of-le}
+use native.Mathlib.Omega.{arith}
+use lib.Dec.{leb, ltb, eqb}
+use lib.ListN.{length, getD}
+use lib.Pow.{pow-mono}
+use borrow.Author.Tests.{leb-true, le-leb, lt-leb, ltb-true, ltb-false, eqb-true}
+use Rattle.yard.specs.Words.{first}
+use Rattle.yard.specs.Night.{itemOf}
+use Rattle.yard.specs.Codes.{usable, fewestTracks}
+use Rattle.yard.specs.Replay.{bit, nextStep}
+use Rattle.yard.specs.Answers.{says, test}
+use Rattle.yard.specs.Demands.{Within, CodesBelow}
+use Rattle.yard.proofs.Bools.{and-left, and-right, not-so, not-true}
+use Rattle.yard.proofs.First.{first-none, first-fails}
+use Rattle.yard.proofs.Tests.{item-at}
+use Rattle.yard.proofs.Early.{Kept, kept-of-gaps}
+use Rattle.yard.proofs.Plans.{usable-gaps}
+use Rattle.yard.proofs.EarlySearch.{waits, lowestWaiting, someWaits, firstWaiting}
+use Rattle.codes.proofs.Gap.{usable-fewest}
+use Rattle.plans.specs.Closed.{OfEight, wider, firstWider, waitTest}
+
+-- a car with a usable code waits for no later step on the track of this one
+kept-waits : (W h x s : ℕ) → Kept W h x → s < h → waits W h x s ≡ false
+kept-waits W h x s kept l =
+    not-so (waits W h x s)
+    (λ e.
+    let free = not (bit s x) in
+    let bound = ltb (nextStep h x s) h in
+    let same = eqb (nextStep h x s % W) (s % W) in
+    let later = and-right free (bound && same) e in
+    kept s l (not-true (bit s x) (and-left free (bound && same) e)) (ltb-true (nextStep h x s) h (and-left bound same later)) (eqb-true (nextStep h x s % W) (s % W) (and-right bound same later)))
+
+module _ (W h : ℕ) (codes : List ℕ) (pos : 0 < W) (few : h ≤ 8) (below : CodesBelow h codes) where
+  code-below : (i : ℕ) → i < length codes → getD codes i 0 < 2 ^ h
+  code-below i m = subst (λ (x : ℕ). x < 2 ^ h) (item-at codes i) (below (suc i) (omega arith, m))
+
+  pub of-eight : OfEight codes
+  of-eight i m = lt-of-lt-of-le (code-below i m) (pow-mono few)
+
+  module _ (none : length codes ≤ firstWider W codes) where
+    item-waits : (s i : ℕ) → s < h → i < length codes → waits W h (getD codes i 0) s ≡ false
+    item-waits s i l m =
+        let x = getD codes i 0 in
+        let narrow : fewestTracks 8 x ≤ W = ltb-false W (fewestTracks 8 x) (first-none (wider W codes) (length codes) 0 i (omega arith) (omega arith)) in
+        let good : usable W h x ≡ true = usable-fewest W h 8 x pos (omega arith) few (code-below i m) ∙ le-leb (fewestTracks 8 x) W narrow in
+        kept-waits W h x s (kept-of-gaps W h x pos (usable-gaps W h x pos .0 good)) l
+
+    car-waits : (s car : ℕ) → s < h → 1 ≤ car → car < 1 + length codes → waits W h (itemOf codes car) s ≡ false
+    car-waits s car l a b = item-waits s (car - 1) l (omega arith)
+
+    step-waits : (s : ℕ) → s < h → someWaits W h codes s ≡ false
+    step-waits s l =
+        let past = first-fails (λ car. waits W h (itemOf codes car) s) (length codes) 1 (λ car a b. car-waits s car l a b) in
+        lt-leb (lowestWaiting W h codes s) (length codes) (omega (arith, past))
+
+    pub never-waits : waitTest W h codes ≡ says 0 0 0
+    never-waits =
+        let k = firstWaiting W h codes in
+        let end = first-fails (someWaits W h codes) h 0 (λ s a b. step-waits s (omega arith)) in
+        ap (λ (b : Bool). test b (says 8 (lowestWaiting W h codes k) k)) (le-leb h k (omega (arith, end)))
