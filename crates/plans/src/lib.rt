@@ -10,11 +10,12 @@ ghost use Rattle.yard.specs.Night.{planOf};
 ghost use Rattle.yard.specs.Answers.{says, verdict};
 ghost use Rattle.yard.specs.Calls.{Checks, Replays};
 ghost use Rattle.yard.specs.Demands.{Listed};
+ghost use Rattle.sorting.specs.Early.{earlyFound};
 ghost use Rattle.sorting.specs.Sums.{setBelow, mostNamed};
-ghost use Rattle.plans.specs.Closed.{givenTests, waitTest, fullTest, soundTests, firstPair, pairTest, Counted, placedTests, Placeable, Placed};
+ghost use Rattle.plans.specs.Closed.{givenTests, earlyAnswer, fullTest, soundTests, firstPair, pairTest, Counted, placedTests, Placeable, Placed};
 
 // 2, 3 and 4: the lists of a plan.
-pub fn given(lengths: &[u16], inbound: &[u16], codes: &[u16]) -> Answer
+fn given(lengths: &[u16], inbound: &[u16], codes: &[u16]) -> Answer
     requires { ⌜ (length (now lengths) ≤ limits .trains) × (length (now inbound) ≤ limits .cars) ⌝ }
     ensures { λ r. ⌜ r ≡ verdict (givenTests (now (lengths .entry)) (now (inbound .entry)) (now (codes .entry))) (says 0 0 0) ⌝ }
 {
@@ -23,9 +24,9 @@ pub fn given(lengths: &[u16], inbound: &[u16], codes: &[u16]) -> Answer
 }
 
 // 8: no car pulled early, or else the lowest car of the first such step.
-pub fn early(codes: &[u16], tracks: usize, steps: usize) -> Answer
+fn early(codes: &[u16], tracks: usize, steps: usize) -> Answer
     requires { ⌜ (0 < tracks) × (steps ≤ 16) ⌝ }
-    ensures { λ r. ⌜ r ≡ waitTest tracks steps (now (codes .entry)) ⌝ }
+    ensures { λ r. ⌜ r ≡ earlyAnswer (earlyFound tracks steps (now (codes .entry))) ⌝ }
 {
     let found = sorting::early::first_early(codes, tracks, steps);
     match found {
@@ -35,7 +36,7 @@ pub fn early(codes: &[u16], tracks: usize, steps: usize) -> Answer
 }
 
 // 6: no track overfilled, or else the first such step and its cars.
-pub fn full(codes: &[u16], room: usize, steps: usize) -> Answer
+fn full(codes: &[u16], room: usize, steps: usize) -> Answer
     requires { ⌜ steps ≤ 16 ⌝ }
     ensures { λ r. ⌜ r ≡ fullTest room steps (now (codes .entry)) ⌝ }
 {
@@ -48,7 +49,7 @@ pub fn full(codes: &[u16], room: usize, steps: usize) -> Answer
 }
 
 // 7, 8 and 6: what the codes alone can break.
-pub fn sound(codes: &[u16], tracks: usize, room: usize, steps: usize) -> Answer
+fn sound(codes: &[u16], tracks: usize, room: usize, steps: usize) -> Answer
     requires { ⌜ (0 < tracks) × (steps ≤ 16) ⌝ }
     ensures { λ r. ⌜ r ≡ verdict (soundTests tracks room steps (now (codes .entry))) (says 0 0 0) ⌝ }
 {

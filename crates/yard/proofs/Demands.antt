@@ -17,7 +17,7 @@ use Rattle.yard.specs.Replay.{yardAt, passes, firstEarly, lowestEarly, f
 use Rattle.yard.specs.Derived.{stepsNeeded, derivedCodes, derivedPlan}
 use Rattle.yard.specs.Answers.{says, test, emptyTrain, firstBad, unruled, countTest, trainTest, sumTest, inboundTest, listTest, limitTest, roomTest, codeTest, wideCode, earlyTest, orderTest}
 use Rattle.yard.specs.Calls.{countTests, nightCounts, nightTests, deriveTests, deriveAnswer, checkTests, checkAnswer, replayTests, replayAnswer, Derives, Checks, Replays}
-use Rattle.yard.specs.Demands.{Within, NoneEmpty, EachOnce, CodesBelow, NeverEarly, HasRoom, BuildsTrains, Listed, CodesFormed, Sorts, Sortable, Reason, AllHold, FirstFails, must, countReasons, nightReasons, deriveReasons, checkReasons, replayReasons}
+use Rattle.yard.specs.Demands.{Within, NoneEmpty, EachOnce, CodesBelow, NeverEarly, HasRoom, BuildsTrains, Listed, CodesFormed, Sorts, Sortable, Reason, AllHold, FirstFails, must, rangeReasons, countReasons, nightReasons, deriveReasons, checkReasons, replayReasons}
 use Rattle.yard.proofs.Verdict.{verdict-done}
 use Rattle.yard.proofs.Tests.{asks, count-passed, sum-passed, list-passed, none-passed}
 use Rattle.yard.proofs.Formed.{train-passed, inbound-passed}
@@ -29,7 +29,7 @@ use Rattle.yard.proofs.Reasons.{Agrees, Agree, agree-append, accepted-e
 
 -- ---- each test agrees with its reason
 
-agrees : (b : Bool) (k a c : ℕ) (P : Type 0) → ((test b (says (suc k) a c) .number ≡ 0) ↔ P) → Agrees (test b (says (suc k) a c)) (must (suc k) P)
+pub agrees : (b : Bool) (k a c : ℕ) (P : Type 0) → ((test b (says (suc k) a c) .number ≡ 0) ↔ P) → Agrees (test b (says (suc k) a c)) (must (suc k) P)
 agrees b k a c P e = record { exactly = e; number = named b }
   where
     named : (b : Bool) → (test b (says (suc k) a c) .number ≡ 0 → ⊥) → test b (says (suc k) a c) .number ≡ suc k
@@ -42,10 +42,10 @@ count-agrees a low high x = agrees (leb low x && leb x high) 0 a 0 (Within low h
 list-agrees : (a : ℕ) (ok : Bool) (P : Type 0) → ((ok ≡ true) ↔ P) → Agrees (listTest a ok) (must 4 P)
 list-agrees a ok P e = agrees ok 3 a 0 P (λ t. e .0 (list-passed a ok .0 t), λ h. list-passed a ok .1 (e .1 h))
 
-counts-agree : (L : Limits) (n : Night) (h : ℕ) → Agree (nightCounts L n h) (countReasons L n h)
-counts-agree L n h = (
-  count-agrees 1 1 (L .cars) (length (n .inbound)),
-  λ _. (count-agrees 2 1 (L .trains) (length (n .lengths)), λ _. (count-agrees 3 1 (L .tracks) (n .tracks), λ _. (count-agrees 4 1 (L .room) (n .room), λ _. (count-agrees 5 0 (L .steps) h, λ _. tt)))),
+pub ranges-agree : (L : Limits) (n m W C h : ℕ) → Agree (countTests L n m W C h) (rangeReasons L n m W C h)
+ranges-agree L n m W C h = (
+  count-agrees 1 1 (L .cars) n,
+  λ _. (count-agrees 2 1 (L .trains) m, λ _. (count-agrees 3 1 (L .tracks) W, λ _. (count-agrees 4 1 (L .room) C, λ _. (count-agrees 5 0 (L .steps) h, λ _. tt)))),
 )
 
 night-agrees : (n : Night) → Agree (nightTests n) (nightReasons n)
@@ -66,7 +66,7 @@ codes-passed h codes = (
     none : (codeTest h codes .number ≡ 0) ↔ ((j : ℕ) → 1 ≤ j → j ≤ length codes → leb (2 ^ h) (itemOf codes j) ≡ false)
     none = none-passed (λ car. leb (2 ^ h) (itemOf codes car)) (length codes) 6 (wideCode h codes) 0
 
-codes-agree : (h : ℕ) (codes : List ℕ) → Agrees (codeTest h codes) (must 7 (CodesBelow h codes))
+pub codes-agree : (h : ℕ) (codes : List ℕ) → Agrees (codeTest h codes) (must 7 (CodesBelow h codes))
 codes-agree h codes = agrees (ltb (length codes) (wideCode h codes)) 6 (wideCode h codes) 0 (CodesBelow h codes) (codes-passed h codes)
 
 early-agrees : (p : Plan) → EachOnce (p .night .inbound) → Agrees (earlyTest p) (must 8 (NeverEarly p))
@@ -92,13 +92,13 @@ limit-agrees n limit some pos f = agrees (leb (stepsNeeded n) limit) 4 (stepsNee
 -- ---- demand 1: every refusal by its number, exactly where its reason holds and no earlier one does
 
 -- the tests that begin every call, and those that follow
-counts-then : (L : Limits) (n : Night) (h : ℕ) (us : List Answer) (ss : List Reason) → (AllHold (countReasons L n h) → Agree us ss) → Agree (nightCounts L n h ++ us) (countReasons L n h ++ ss)
-counts-then L n h us ss rest = agree-append (nightCounts L n h) us (countReasons L n h) ss (counts-agree L n h) rest
+pub counts-then : (L : Limits) (n : Night) (h : ℕ) (us : List Answer) (ss : List Reason) → (AllHold (countReasons L n h) → Agree us ss) → Agree (nightCounts L n h ++ us) (countReasons L n h ++ ss)
+counts-then L n h us ss rest = agree-append (nightCounts L n h) us (countReasons L n h) ss (ranges-agree L (length (n .inbound)) (length (n .lengths)) (n .tracks) (n .room) h) rest
 
-night-then : (n : Night) (us : List Answer) (ss : List Reason) → (Listed (n .lengths) (n .inbound) → Agree us ss) → Agree (nightTests n ++ us) (nightReasons n ++ ss)
+pub night-then : (n : Night) (us : List Answer) (ss : List Reason) → (Listed (n .lengths) (n .inbound) → Agree us ss) → Agree (nightTests n ++ us) (nightReasons n ++ ss)
 night-then n us ss rest = agree-append (nightTests n) us (nightReasons n) ss (night-agrees n) (λ h. rest (record { nonempty = h .0; adds = h .1 .0; once = h .1 .1 .0 }))
 
-codes-length-agrees : (p : Plan) → Agrees (listTest 3 (eqb (length (p .codes)) (length (p .night .inbound)))) (must 4 (length (p .codes) ≡ length (p .night .inbound)))
+pub codes-length-agrees : (p : Plan) → Agrees (listTest 3 (eqb (length (p .codes)) (length (p .night .inbound)))) (must 4 (length (p .codes) ≡ length (p .night .inbound)))
 codes-length-agrees p = list-agrees 3 (eqb i j) (i ≡ j) (eqb-true i j, eq-eqb i j)
   where
     i : ℕ
@@ -107,7 +107,7 @@ codes-length-agrees p = list-agrees 3 (eqb i j) (i ≡ j) (eqb-true i j, eq-eqb 
     j : ℕ
     j = length (p .night .inbound)
 
-buffer-agrees : (a i j : ℕ) → Agrees (listTest a (leb i j)) (must 4 (i ≤ j))
+pub buffer-agrees : (a i j : ℕ) → Agrees (listTest a (leb i j)) (must 4 (i ≤ j))
 buffer-agrees a i j = list-agrees a (leb i j) (i ≤ j) (leb-true i j, le-leb i j)
 
 derive-agrees : (L : Limits) (n : Night) (limit size : ℕ) → Agree (deriveTests L n limit size) (deriveReasons L n limit size)

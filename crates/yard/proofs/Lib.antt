@@ -24,6 +24,7 @@ pub mod Least
 pub mod DerivedPlan
 pub mod Reasons
 pub mod Demands
+pub mod CardDemands
 pub mod PlanYard
 pub mod EarlySearch
 pub mod Trials

@@ -10,6 +10,7 @@ use Rattle.yard.specs.Limits.{Limits}
 use Rattle.yard.specs.Night.{Night, Plan, cars, sum, itemOf, carsOf}
 use Rattle.yard.specs.Replay.{bit, codeOf, pulled, pullSize, built}
 use Rattle.yard.specs.Derived.{derivedPlan}
+use Rattle.yard.specs.Card.{card, headField, cardPlan, rightLength, endsRight}
 
 -- x lies in a range
 abbrev pub Within : ℕ → ℕ → ℕ → Type 0
@@ -78,14 +79,17 @@ FirstFails k (r ∷ reasons) = ((r .asked → ⊥) × (r .number ≡ k)) ⊎ (r 
 abbrev pub must : ℕ → Type 0 → Reason
 must number asked = record { number = number; asked = asked }
 
-abbrev pub countReasons : Limits → Night → ℕ → List Reason
-countReasons L n h =
-    must 1 (Within 1 (L .cars) (length (n .inbound))) ∷
-    must 1 (Within 1 (L .trains) (length (n .lengths))) ∷
-    must 1 (Within 1 (L .tracks) (n .tracks)) ∷
-    must 1 (Within 1 (L .room) (n .room)) ∷
+abbrev pub rangeReasons : Limits → ℕ → ℕ → ℕ → ℕ → ℕ → List Reason
+rangeReasons L n m W C h =
+    must 1 (Within 1 (L .cars) n) ∷
+    must 1 (Within 1 (L .trains) m) ∷
+    must 1 (Within 1 (L .tracks) W) ∷
+    must 1 (Within 1 (L .room) C) ∷
     must 1 (Within 0 (L .steps) h) ∷
     []
+
+abbrev pub countReasons : Limits → Night → ℕ → List Reason
+countReasons L n h = rangeReasons L (length (n .inbound)) (length (n .lengths)) (n .tracks) (n .room) h
 
 abbrev pub nightReasons : Night → List Reason
 nightReasons n = must 2 (NoneEmpty (n .lengths)) ∷ must 2 (sum (n .lengths) ≡ length (n .inbound)) ∷ must 3 (EachOnce (n .inbound)) ∷ []
@@ -122,3 +126,25 @@ replayReasons L p stage trackSize placeSize =
     must 8 (NeverEarly p) ∷
     must 6 (HasRoom p) ∷
     [])))
+
+abbrev pub writerReasons : Limits → Plan → ℕ → List Reason
+writerReasons L p size =
+    countReasons L (p .night) (p .steps) ++
+    (nightReasons (p .night) ++
+    (must 4 (length (p .codes) ≡ length (p .night .inbound)) ∷
+    must 7 (CodesBelow (p .steps) (p .codes)) ∷
+    must 4 (length (card p) ≤ size) ∷
+    []))
+
+abbrev pub readerReasons : Limits → List ℕ → ℕ → ℕ → ℕ → List Reason
+readerReasons L bytes lengthsSize inboundSize codesSize =
+    must 10 (1 ≤ length bytes) ∷
+    must 11 (headField bytes 0 ≡ 1) ∷
+    must 10 (5 ≤ length bytes) ∷
+    (rangeReasons L (headField bytes 4) (headField bytes 5) (headField bytes 2) (headField bytes 3) (headField bytes 1) ++
+    (must 10 (rightLength bytes ≤ length bytes) ∷
+    must 4 (headField bytes 5 ≤ lengthsSize) ∷
+    must 4 (headField bytes 4 ≤ inboundSize) ∷
+    must 4 (headField bytes 4 ≤ codesSize) ∷
+    (nightReasons (cardPlan bytes .night) ++
+    (must 12 (endsRight bytes ≡ true) ∷ []))))

@@ -1,8 +1,6 @@
 -- The proof of `early`: what the search found, or nothing.
 use mathlib.Core.Path.{sym, ap, _∙_}
-use denote.Ref.{now}
 use Rattle.plans.specs.Closed.{earlyAnswer}
-use Rattle.plans.proofs.Closed.{told-early}
 use borrow.Author.Needs.{needs}
 use Rattle.plans.proofs.early.Statement.{statement}
 use Rattle.plans.proofs.early.Tie as tie
@@ -23,15 +21,10 @@ answer-requires-2 : tie.Need-answer-requires-2
 answer-requires-2 c κs = search needs
 
 returns : tie.Need-returns
-returns c =
-    let args = c .before .before .before .before .before .before .args in
-    let found = c .before .before .found .given in
-    c .answer .ensures ∙ (ap earlyAnswer (sym (found .1) ∙ c .before .before .before .before .first-early .ensures) ∙ told-early (args .tracks) (args .steps) (now (args .codes)))
+returns c = c .answer .ensures ∙ ap earlyAnswer (sym (c .before .before .found .given .1) ∙ c .before .before .before .before .first-early .ensures)
 
 returns-2 : tie.Need-returns-2
-returns-2 c =
-    let args = c .before .before .before .before .before .args in
-    c .answer2 .ensures ∙ (ap earlyAnswer (sym (c .before .enum-told .given .1) ∙ c .before .before .before .first-early .ensures) ∙ told-early (args .tracks) (args .steps) (now (args .codes)))
+returns-2 c = c .answer2 .ensures ∙ ap earlyAnswer (sym (c .before .enum-told .given .1) ∙ c .before .before .before .first-early .ensures)
 
 pub early-spec : {M : Type 1} → statement M
 early-spec =

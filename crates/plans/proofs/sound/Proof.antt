@@ -8,6 +8,7 @@ use Rattle.yard.specs.Answers.{says, codeTest}
 use Rattle.yard.proofs.Verdict.{stops, goes-on, last-is}
 use Rattle.sorting.specs.Sums.{named, firstAbove}
 use Rattle.plans.specs.Closed.{waitTest, fullTest}
+use Rattle.plans.proofs.Closed.{told-early}
 use borrow.Author.Needs.{needs}
 use Rattle.plans.proofs.sound.Statement.{statement}
 use Rattle.plans.proofs.sound.Tie as tie
@@ -31,7 +32,7 @@ returns-2 c =
     let below = c .before .before .before .before .before .codes in
     let kept = c .before .before .early in
     goes-on (codeTest (args .steps) codes) (waitTest (args .tracks) (args .steps) codes ∷ fullTest (args .room) (args .steps) codes ∷ []) (says 0 0 0) (below .result) (below .ensures) (kept .result) (c .before .before .before .if1 .left)
-    (stops (waitTest (args .tracks) (args .steps) codes) (fullTest (args .room) (args .steps) codes ∷ []) (says 0 0 0) (kept .result) (kept .ensures) (c .if2 .taken))
+    (stops (waitTest (args .tracks) (args .steps) codes) (fullTest (args .room) (args .steps) codes ∷ []) (says 0 0 0) (kept .result) (kept .ensures ∙ told-early (args .tracks) (args .steps) codes) (c .if2 .taken))
 
 full-requires : tie.Need-full-requires
 full-requires c κs = search needs
@@ -44,7 +45,7 @@ returns-3 c =
     let kept = c .before .before .before .early in
     let above = firstAbove (args .room) codes (args .steps) in
     goes-on (codeTest (args .steps) codes) (waitTest (args .tracks) (args .steps) codes ∷ fullTest (args .room) (args .steps) codes ∷ []) (says 0 0 0) (below .result) (below .ensures) (c .full .result) (c .before .before .before .before .if1 .left)
-    (goes-on (waitTest (args .tracks) (args .steps) codes) (fullTest (args .room) (args .steps) codes ∷ []) (says 0 0 0) (kept .result) (kept .ensures) (c .full .result) (c .before .if2 .left)
+    (goes-on (waitTest (args .tracks) (args .steps) codes) (fullTest (args .room) (args .steps) codes ∷ []) (says 0 0 0) (kept .result) (kept .ensures ∙ told-early (args .tracks) (args .steps) codes) (c .full .result) (c .before .if2 .left)
     (c .full .ensures ∙ last-is (leb (args .steps) above) (says 6 above (named codes above)) (suc-ne-zero 5)))
 
 pub sound-spec : {M : Type 1} → statement M
