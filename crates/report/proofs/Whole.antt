@@ -12,10 +12,9 @@ use lib.ListN.{length, getD, take, length-append}
 use lib.Seq.{take-suc, take-all}
 use borrow.Author.Tests.{lt-ltb, eqb-true}
 use Rattle.io.specs.Digits.{glyph, digits}
-use Rattle.yard.specs.declared.Answer.{Answer}
 use Rattle.yard.specs.Words.{upFrom, first}
 use Rattle.yard.specs.Limits.{limits}
-use Rattle.yard.specs.Night.{Night, Plan, sum, itemOf, firstCar}
+use Rattle.yard.specs.Night.{Plan, sum}
 use Rattle.yard.specs.Replay.{built}
 use Rattle.yard.specs.Derived.{derivedPlan}
 use Rattle.yard.specs.Calls.{checkAnswer, deriveAnswer}
