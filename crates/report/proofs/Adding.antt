@@ -4,8 +4,8 @@ use mathlib.Core.Path.{_≡_, refl, sym, ap, _∙_}
 use mathlib.Core.List.{List, [], _∷_, _++_, append-assoc, append-nil}
 use native.Mathlib.Numerals.{add-one}
 use native.Mathlib.Omega.{arith}
-use lib.ListN.{length, getD, take, drop, set, length-append, length-set}
-use lib.Seq.{length-take-le, take-all, take-nil, take-take, take-suc, take-suc-set, take-append-le, drop-cons}
+use lib.ListN.{length, getD, take, set, length-append, length-set}
+use lib.Seq.{length-take-le, take-all, take-suc, take-suc-set, take-append-le}
 use Rattle.report.specs.Text.{Adds}
 
 -- what is left off once need not be looked at again

@@ -4,3 +4,4 @@ pub mod Numerals
 pub mod Listing
 pub mod Standing
 pub mod Programs
+pub mod Whole

@@ -1,13 +1,12 @@
 -- A number in decimal: the fewest digits that hold it are as many as its numeral has.
-use Prim.Native.Nat.{ℕ, zero, suc, _+_, _-_, _^_, _≤_, _<_}
-use mathlib.Core.Path.{_≡_, refl, sym, ap, _∙_}
+use Prim.Native.Nat.{ℕ, _-_, _^_, _≤_, _<_}
+use mathlib.Core.Path.{_≡_, sym, ap}
 use mathlib.Core.Logic.{⊎-elim}
 use native.Mathlib.Omega.{arith}
 use native.Mathlib.Nat.{le-trans, pow-le-pow-right}
 use lib.Dec.{ltb}
 use borrow.Author.Tests.{lt-ltb, le-ltb}
 use Rattle.io.specs.Digits.{digits, Fewest}
-use Rattle.yard.specs.Words.{first}
 use Rattle.yard.proofs.First.{first-found}
 use Rattle.yard.proofs.Numbers.{le-or-lt}
 use Rattle.report.specs.Text.{width, numeral}

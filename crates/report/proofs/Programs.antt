@@ -1,21 +1,21 @@
 -- Laws of the two programs: what is refused is told, and what is accepted is put out whole.
-use Prim.Native.Nat.{ℕ, zero, suc, _+_, _-_, _≤_, _<_}
+use Prim.Native.Nat.{ℕ, zero, suc, _+_, _-_, _≤_}
 use mathlib.Core.Path.{_≡_, refl, sym, ap, ap₂, _∙_, subst}
-use mathlib.Core.Bool.{Bool, cond}
-use mathlib.Core.List.{List, [], _∷_, _++_, map}
+use mathlib.Core.Bool.{cond}
+use mathlib.Core.List.{List, _++_}
 use native.Mathlib.Nat.{sub-zero, le-refl, add-sub-of-le}
 use native.Mathlib.Omega.{arith}
-use lib.ListN.{length, getD, take, drop, length-map, length-append, length-drop}
+use lib.ListN.{length, take, drop, length-map, length-append, length-drop}
 use lib.Seq.{take-append-seam, take-all}
 use borrow.Author.Tests.{eq-eqb, ne-eqb}
 use Rattle.yard.specs.declared.Answer.{Answer}
 use Rattle.yard.specs.declared.CardAnswer.{CardAnswer}
 use Rattle.yard.specs.Limits.{limits}
-use Rattle.yard.specs.Night.{Night, Plan, cars, sum, itemOf, nightOf, planOf}
+use Rattle.yard.specs.Night.{Night, Plan, cars, itemOf, planOf}
 use Rattle.yard.specs.Replay.{passes, built}
 use Rattle.yard.specs.Derived.{stepsNeeded, derivedCodes, derivedPlan}
-use Rattle.yard.specs.Answers.{says, verdict, written}
-use Rattle.yard.specs.Calls.{Checks, Replays, Derives, checkAnswer, replayAnswer, deriveAnswer, carTracks, carPlaces, deriveTests}
+use Rattle.yard.specs.Answers.{says, written}
+use Rattle.yard.specs.Calls.{Checks, Replays, Derives, replayAnswer, deriveAnswer, carTracks, carPlaces, deriveTests}
 use Rattle.yard.specs.Card.{card, cardPlan, readerAnswer, writerTests, writerAnswer, Reads, Writes}
 use Rattle.yard.specs.Demands.{Within, Listed, BuildsTrains}
 use Rattle.yard.proofs.Lists.{length-upFrom}

@@ -11,7 +11,7 @@ use lib.ListN.{length, getD, take, set, replicate, length-set, length-replicate}
 use lib.Seq.{ext-getD, getD-take, getD-set-same, getD-set-other, length-take-le}
 use borrow.Author.Tests.{eq-eqb, eqb-true}
 use Rattle.yard.specs.Words.{tally, count, place, upFrom}
-use Rattle.yard.specs.Night.{Plan, cars, sum, itemOf, firstCar, carsOf}
+use Rattle.yard.specs.Night.{Plan, cars, itemOf, firstCar}
 use Rattle.yard.specs.Replay.{yardAt, built, trackOf, placeOf}
 use Rattle.yard.specs.Calls.{carTracks, carPlaces}
 use Rattle.yard.specs.Demands.{Within, Listed, BuildsTrains}

@@ -4,7 +4,6 @@ use mathlib.Core.Bool.{cond}
 use mathlib.Core.List.{List, _++_}
 use lib.Dec.{eqb}
 use lib.ListN.{length}
-use Rattle.yard.specs.declared.Answer.{Answer}
 use Rattle.yard.specs.Limits.{limits}
 use Rattle.yard.specs.Night.{Night, Plan}
 use Rattle.yard.specs.Replay.{built}

@@ -1,7 +1,7 @@
 -- Text at the front of a buffer, piece behind piece: what fits stands there, and what does not is left off.
 use Prim.Native.Nat.{ℕ, _≤_, _^_}
 use mathlib.Core.Path.{_≡_}
-use mathlib.Core.List.{List, [], _∷_, _++_}
+use mathlib.Core.List.{List, _++_}
 use lib.Dec.{ltb}
 use lib.ListN.{length, take}
 use Rattle.yard.specs.Words.{first}

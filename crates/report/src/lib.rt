@@ -1,6 +1,6 @@
 // What the two programs put out for a card: document 01's lines, and the card of the derived plan.
-pub mod text; // text.rt: pieces of text, one behind the other
-pub mod lines; // lines.rt: document 01's lines
+mod text; // text.rt: pieces of text, one behind the other
+mod lines; // lines.rt: document 01's lines
 
 ghost use mathlib.Core.Path.{_≡_};
 ghost use lib.ListN.{length};

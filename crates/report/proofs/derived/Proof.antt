@@ -1,8 +1,7 @@
 -- The proof of `derived`: what derive refuses is told, and the plan that it derives is written.
 use Prim.Native.Nat.{ℕ}
-use mathlib.Core.Path.{_≡_}
 use denote.Ref.{now}
-use lib.ListN.{length, replicate, length-replicate}
+use lib.ListN.{length, length-replicate}
 use borrow.Author.Needs.{needs}
 use Rattle.yard.specs.Night.{nightOf}
 use Rattle.report.proofs.Adding.{adds-same}

@@ -1,6 +1,5 @@
 -- The proof of `nightcard`: what the reader refuses is told, and the plan that it reads is put out.
 use Prim.Native.Nat.{ℕ}
-use denote.Ref.{now}
 use lib.ListN.{length-replicate}
 use borrow.Author.Needs.{needs}
 use Rattle.report.specs.Programs.{checkedLines, nightcardText}

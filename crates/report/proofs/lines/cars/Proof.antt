@@ -1,10 +1,9 @@
 -- The proof of `cars`: the cars passed stand behind the first bytes.
-use Prim.Native.Nat.{ℕ, _-_, _≤_}
-use mathlib.Core.Path.{sym, ap, subst}
-use mathlib.Core.List.{List}
+use Prim.Native.Nat.{_-_, _≤_}
+use mathlib.Core.Path.{ap}
 use native.Mathlib.Omega.{arith}
 use denote.Ref.{now}
-use lib.ListN.{length, getD, take}
+use lib.ListN.{length, take}
 use lib.Seq.{take-all}
 use Rattle.report.specs.Text.{Adds}
 use Rattle.report.specs.Lines.{blank, named, carList}

@@ -1,6 +1,5 @@
 -- The proof of `counts`: one piece behind another.
 use borrow.Author.Needs.{needs}
-use Rattle.report.specs.Text.{Adds}
 use Rattle.report.specs.Lines.{countsLine}
 use Rattle.report.proofs.Adding.{adds-then}
 use Rattle.report.proofs.lines.counts.Statement.{statement}

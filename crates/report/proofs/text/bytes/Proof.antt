@@ -1,10 +1,8 @@
 -- The proof of `bytes`: the bytes passed stand behind the first ones.
-use Prim.Native.Nat.{ℕ, _-_, _≤_}
-use mathlib.Core.Path.{sym}
+use Prim.Native.Nat.{_-_, _≤_}
 use native.Mathlib.Omega.{arith}
 use denote.Ref.{now}
 use lib.ListN.{length, take}
-use borrow.Author.Needs.{needs}
 use Rattle.report.specs.Text.{Adds}
 use Rattle.report.proofs.Adding.{adds-none, adds-next, adds-all}
 use Rattle.report.proofs.text.bytes.Statement.{statement}
