@@ -2,16 +2,19 @@
 use mathlib.Core.Path.{_≡_, refl, sym, ap, _∙_}
 use mathlib.Core.Logic.{_⊎_, inl, inr, ⊎-elim, _↔_}
 use mathlib.Core.Bool.{Bool, true, false, cond}
+use mathlib.Core.List.{List}
 use Prim.Native.Nat.{ℕ, zero, suc, _+_, _-_, _^_, max, _≤_, _<_}
 use native.Mathlib.Nat.{le-refl, add-zero, zero-add, add-suc, le-add-right, lt-of-lt-of-le}
 use native.Mathlib.Omega.{arith}
 use lib.Dec.{leb}
-use lib.ListN.{getD}
+use lib.ListN.{length, getD, length-map}
 use lib.Pow.{pow-mono}
 use borrow.Author.Tests.{le-leb, lt-leb, leb-true}
+use Rattle.yard.specs.Words.{upFrom}
 use Rattle.yard.specs.Replay.{bit}
 use Rattle.yard.specs.Codes.{usable, fewestTracks}
 use Rattle.yard.proofs.Bools.{clash, same-test}
+use Rattle.yard.proofs.Lists.{length-upFrom}
 use Rattle.yard.proofs.Numbers.{below-suc}
 use Rattle.yard.proofs.First.{first-found}
 use Rattle.yard.proofs.Codes.{bit-above}
@@ -100,6 +103,13 @@ fewest-gap h x some =
 
 pub entry : (h code : ℕ) → 0 < h → code < 2 ^ h → getD (gaps h) code 0 ≡ fewestTracks h code
 entry h code some m = map-item (widestGap h) 0 (2 ^ h) code m ∙ (ap (widestGap h) (zero-add code) ∙ sym (fewest-gap h code some))
+
+-- the same of a list that is the table, whose length is the number of codes
+pub told-fewest : (table : List ℕ) (code : ℕ) → table ≡ gaps 8 → code < 2 ^ 8 → getD table code 0 ≡ fewestTracks 8 code
+told-fewest table code is m = ap (λ (l : List ℕ). getD l code 0) is ∙ entry 8 code (omega arith) m
+
+pub gaps-length : (h : ℕ) → length (gaps h) ≡ 2 ^ h
+gaps-length h = length-map (upFrom 0 (2 ^ h)) (widestGap h) ∙ length-upFrom 0 (2 ^ h)
 
 -- a code of fewer steps has the same number
 gap-grow : (d h x : ℕ) → x < 2 ^ h → widestGap (h + d) x ≡ widestGap h x

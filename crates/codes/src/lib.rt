@@ -3,7 +3,9 @@ ghost use mathlib.Core.Path.{_≡_};
 ghost use Prim.Native.Nat.{_≤_, _^_};
 ghost use lib.ListN.{length};
 ghost use Rattle.yard.specs.Codes.{fewestTracks, fewestSteps, usableCodes};
+ghost use Rattle.codes.specs.Gap.{gaps};
 ghost use Rattle.codes.specs.Front.{Front};
+ghost use Rattle.codes.specs.Wider.{OfEight, firstWider};
 
 // The most tracks for which the fewest steps are worked out.
 const TRACKS: usize = 16;
@@ -280,6 +282,28 @@ pub fn fewest_tracks(code: u8) -> usize
     ensures { λ r. ⌜ r ≡ fewestTracks 8 code ⌝ }
 {
     wide(FEWEST[code as usize])
+}
+
+// The index of the first code whose entry of the table is above these tracks, or the number of codes where none is.
+fn first_above(table: &[u8], codes: &[u16], tracks: usize) -> usize
+    requires { ⌜ (now table ≡ gaps 8) × OfEight (now codes) ⌝ }
+    ensures { λ r. ⌜ r ≡ firstWider tracks (now (codes .entry)) ⌝ }
+{
+    for i in 0..codes.len() {
+        if tracks < wide(table[codes[i] as usize]) {
+            return i;
+        }
+    }
+    codes.len()
+}
+
+// The index of the first code that needs more tracks than these, or the number of codes where none does.
+pub fn first_wider(codes: &[u16], tracks: usize) -> usize
+    requires { ⌜ OfEight (now codes) ⌝ }
+    ensures { λ r. ⌜ r ≡ firstWider tracks (now (codes .entry)) ⌝ }
+{
+    let table = FEWEST;
+    first_above(&table, codes, tracks)
 }
 
 // The fewest steps that give a usable code for each number of breaks up to this one.

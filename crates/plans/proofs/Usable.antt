@@ -22,7 +22,8 @@ use Rattle.yard.proofs.Early.{Kept, kept-of-gaps}
 use Rattle.yard.proofs.Plans.{usable-gaps}
 use Rattle.yard.proofs.EarlySearch.{waits, lowestWaiting, someWaits, firstWaiting}
 use Rattle.codes.proofs.Gap.{usable-fewest}
-use Rattle.plans.specs.Closed.{OfEight, wider, firstWider, waitTest}
+use Rattle.codes.specs.Wider.{OfEight, wider, firstWider}
+use Rattle.plans.specs.Closed.{waitTest}
 
 -- a car with a usable code waits for no later step on the track of this one
 kept-waits : (W h x s : ℕ) → Kept W h x → s < h → waits W h x s ≡ false

@@ -1,15 +1,13 @@
 -- The tests of a plan's replay as the laws let them be worked out, from the lists alone.
-use Prim.Native.Nat.{ℕ, suc, _-_, _^_, _≤_, _<_}
+use Prim.Native.Nat.{ℕ, suc, _-_, _≤_}
 use mathlib.Core.Path.{_≡_}
-use mathlib.Core.Bool.{Bool}
 use mathlib.Core.List.{List, [], _∷_, _++_, map}
-use lib.Dec.{leb, ltb, eqb}
-use lib.ListN.{length, getD}
+use lib.Dec.{leb, eqb}
+use lib.ListN.{length}
 use Rattle.yard.specs.declared.Answer.{Answer}
 use Rattle.yard.specs.Limits.{limits}
 use Rattle.yard.specs.Words.{place, first}
 use Rattle.yard.specs.Night.{nightOf, cars, trainOf}
-use Rattle.yard.specs.Codes.{fewestTracks}
 use Rattle.yard.specs.Answers.{says, test, listTest, codeTest}
 use Rattle.yard.specs.Calls.{nightTests}
 use Rattle.yard.specs.Demands.{Within, Listed}
@@ -36,17 +34,6 @@ waitTest W h codes = test (leb h (firstWaiting W h codes)) (says 8 (lowestWaitin
 -- 6: the first step that more codes name than there is room for
 abbrev pub fullTest : ℕ → ℕ → List ℕ → Answer
 fullTest C h codes = test (leb h (firstAbove C codes h)) (says 6 (firstAbove C codes h) (named codes (firstAbove C codes h)))
-
--- the code at this index needs more tracks than these to be never pulled early; the first such index
-abbrev pub wider : ℕ → List ℕ → ℕ → Bool
-wider W codes i = ltb W (fewestTracks 8 (getD codes i 0))
-
--- codes of eight steps at most
-abbrev pub OfEight : List ℕ → Type 0
-OfEight codes = (i : ℕ) → i < length codes → getD codes i 0 < 2 ^ 8
-
-abbrev pub firstWider : ℕ → List ℕ → ℕ
-firstWider W codes = first (wider W codes) (length codes) 0
 
 -- 7, 8 and 6
 abbrev pub soundTests : ℕ → ℕ → ℕ → List ℕ → List Answer

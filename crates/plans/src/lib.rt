@@ -12,7 +12,7 @@ ghost use Rattle.yard.specs.Calls.{Checks, Replays};
 ghost use Rattle.yard.specs.Demands.{Listed, CodesBelow};
 ghost use Rattle.sorting.specs.Early.{earlyFound};
 ghost use Rattle.sorting.specs.Sums.{setBelow, mostNamed};
-ghost use Rattle.plans.specs.Closed.{givenTests, earlyAnswer, OfEight, firstWider, waitTest, fullTest, soundTests, firstPair, pairTest, Counted, placedTests, Placeable, Placed};
+ghost use Rattle.plans.specs.Closed.{givenTests, earlyAnswer, waitTest, fullTest, soundTests, firstPair, pairTest, Counted, placedTests, Placeable, Placed};
 
 // 2, 3 and 4: the lists of a plan.
 fn given(lengths: &[u16], inbound: &[u16], codes: &[u16]) -> Answer
@@ -35,25 +35,12 @@ fn early(codes: &[u16], tracks: usize, steps: usize) -> Answer
     }
 }
 
-// The index of the first code that needs more tracks than these, or the number of codes where none does.
-fn first_wider(codes: &[u16], tracks: usize) -> usize
-    requires { ⌜ OfEight (now codes) ⌝ }
-    ensures { λ r. ⌜ r ≡ firstWider tracks (now (codes .entry)) ⌝ }
-{
-    for i in 0..codes.len() {
-        if tracks < codes::fewest_tracks(codes[i] as u8) {
-            return i;
-        }
-    }
-    codes.len()
-}
-
 // 8 for codes below 2 to the steps: the table's word for each code comes first, and the search only where it does not do.
 fn kept(codes: &[u16], tracks: usize, steps: usize) -> Answer
     requires { ⌜ (0 < tracks) × (steps ≤ 8) × CodesBelow steps (now codes) ⌝ }
     ensures { λ r. ⌜ r ≡ waitTest tracks steps (now (codes .entry)) ⌝ }
 {
-    if first_wider(codes, tracks) < codes.len() {
+    if codes::first_wider(codes, tracks) < codes.len() {
         return early(codes, tracks, steps);
     }
     intake::answer(0, 0, 0)
