@@ -1,7 +1,6 @@
 -- Laws that the proofs of this crate cite.
 pub mod Closed
 pub mod Usable
-pub mod Roomy
 pub mod Replayed
 pub mod Stages
 pub mod Chain

@@ -59,17 +59,6 @@ fn full(codes: &[u16], room: usize, steps: usize) -> Answer
     }
 }
 
-// 6: a step can find too many cars only where the night has more cars than there is room for.
-fn fits(codes: &[u16], room: usize, steps: usize) -> Answer
-    requires { ⌜ steps ≤ 16 ⌝ }
-    ensures { λ r. ⌜ r ≡ fullTest room steps (now (codes .entry)) ⌝ }
-{
-    if room < codes.len() {
-        return full(codes, room, steps);
-    }
-    intake::answer(0, 0, 0)
-}
-
 // 7, 8 and 6: what the codes alone can break.
 fn sound(codes: &[u16], tracks: usize, room: usize, steps: usize) -> Answer
     requires { ⌜ (0 < tracks) × (steps ≤ 8) ⌝ }
@@ -83,7 +72,7 @@ fn sound(codes: &[u16], tracks: usize, room: usize, steps: usize) -> Answer
     if pulled.number != 0 {
         return pulled;
     }
-    fits(codes, room, steps)
+    full(codes, room, steps)
 }
 
 // The lowest car that breaks the rule with the next, or the last car where there is none.

@@ -31,8 +31,8 @@ pub fn pull(codes: &[u16], step: usize) -> usize
     cars
 }
 
-// The first step that pulls more cars than there is room for, or steps where none does.
-pub fn first_above(codes: &[u16], steps: usize, room: usize) -> usize
+// The first step that pulls more cars than there is room for, or steps where none does, by going over the steps.
+fn find_above(codes: &[u16], steps: usize, room: usize) -> usize
     requires { ⌜ steps ≤ 16 ⌝ }
     ensures { λ r. ⌜ r ≡ firstAbove room (now (codes .entry)) steps ⌝ }
 {
@@ -40,6 +40,17 @@ pub fn first_above(codes: &[u16], steps: usize, room: usize) -> usize
         if room < pull(codes, step) {
             return step;
         }
+    }
+    steps
+}
+
+// The same; only where there are more cars than room can a step pull too many.
+pub fn first_above(codes: &[u16], steps: usize, room: usize) -> usize
+    requires { ⌜ steps ≤ 16 ⌝ }
+    ensures { λ r. ⌜ r ≡ firstAbove room (now (codes .entry)) steps ⌝ }
+{
+    if room < codes.len() {
+        return find_above(codes, steps, room);
     }
     steps
 }

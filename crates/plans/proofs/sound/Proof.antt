@@ -38,8 +38,8 @@ returns-2 c =
     goes-on (codeTest (args .steps) codes) (waitTest (args .tracks) (args .steps) codes ∷ fullTest (args .room) (args .steps) codes ∷ []) (says 0 0 0) (below .result) (below .ensures) (kept .result) (c .before .before .before .if1 .left)
     (stops (waitTest (args .tracks) (args .steps) codes) (fullTest (args .room) (args .steps) codes ∷ []) (says 0 0 0) (kept .result) (kept .ensures) (c .if2 .taken))
 
-fits-requires : tie.Need-fits-requires
-fits-requires c κs = search needs
+full-requires : tie.Need-full-requires
+full-requires c κs = search needs
 
 returns-3 : tie.Need-returns-3
 returns-3 c =
@@ -48,10 +48,10 @@ returns-3 c =
     let below = c .before .before .before .before .before .before .codes in
     let kept = c .before .before .before .kept in
     let above = firstAbove (args .room) codes (args .steps) in
-    goes-on (codeTest (args .steps) codes) (waitTest (args .tracks) (args .steps) codes ∷ fullTest (args .room) (args .steps) codes ∷ []) (says 0 0 0) (below .result) (below .ensures) (c .fits2 .result) (c .before .before .before .before .if1 .left)
-    (goes-on (waitTest (args .tracks) (args .steps) codes) (fullTest (args .room) (args .steps) codes ∷ []) (says 0 0 0) (kept .result) (kept .ensures) (c .fits2 .result) (c .before .if2 .left)
-    (c .fits2 .ensures ∙ last-is (leb (args .steps) above) (says 6 above (named codes above)) (suc-ne-zero 5)))
+    goes-on (codeTest (args .steps) codes) (waitTest (args .tracks) (args .steps) codes ∷ fullTest (args .room) (args .steps) codes ∷ []) (says 0 0 0) (below .result) (below .ensures) (c .full .result) (c .before .before .before .before .if1 .left)
+    (goes-on (waitTest (args .tracks) (args .steps) codes) (fullTest (args .room) (args .steps) codes ∷ []) (says 0 0 0) (kept .result) (kept .ensures) (c .full .result) (c .before .if2 .left)
+    (c .full .ensures ∙ last-is (leb (args .steps) above) (says 6 above (named codes above)) (suc-ne-zero 5)))
 
 pub sound-spec : {M : Type 1} → statement M
 sound-spec =
-    tie.close (tie.spec codes-requires returns kept-requires returns-2 fits-requires returns-3)
+    tie.close (tie.spec codes-requires returns kept-requires returns-2 full-requires returns-3)
