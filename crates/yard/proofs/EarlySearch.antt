@@ -14,6 +14,7 @@ use Rattle.yard.specs.Words.{count, listed, first}
 use Rattle.yard.specs.Night.{Night, Plan, itemOf}
 use Rattle.yard.specs.Replay.{bit, nextStep, target, codeOf, destination, yardAt, pulled, early, lowestEarly, firstEarly}
 use Rattle.yard.specs.Answers.{says, test, earlyTest}
+use Rattle.yard.specs.Waiting.{waits, lowestWaiting, someWaits, firstWaiting}
 use Rattle.yard.specs.Demands.{Within, Listed}
 use Rattle.yard.proofs.Bools.{split, clash, same-test, and-left, and-right, and-both, not-true}
 use Rattle.yard.proofs.Numbers.{le-or-lt}
@@ -22,20 +23,6 @@ use Rattle.yard.proofs.Replay.{Clean}
 use Rattle.yard.proofs.Early.{KeptAt, among-taken, clean-to}
 use Rattle.yard.proofs.Plans.{destination-away}
 use Rattle.yard.proofs.Building.{came-once, came-within}
-
--- a car with code x waits at step s on the track of that step, bound for a later one
-abbrev pub waits : ℕ → ℕ → ℕ → ℕ → Bool
-waits W h x s = not (bit s x) && (ltb (nextStep h x s) h && eqb (nextStep h x s % W) (s % W))
-
--- the lowest car that waits at step k, past the last where there is none; the first step at which one waits, h where there is none
-abbrev pub lowestWaiting : ℕ → ℕ → List ℕ → ℕ → ℕ
-lowestWaiting W h codes k = first (λ car. waits W h (itemOf codes car) k) (length codes) 1
-
-abbrev pub someWaits : ℕ → ℕ → List ℕ → ℕ → Bool
-someWaits W h codes k = leb (lowestWaiting W h codes k) (length codes)
-
-abbrev pub firstWaiting : ℕ → ℕ → List ℕ → ℕ
-firstWaiting W h codes = first (someWaits W h codes) h 0
 
 kept-at : (W h x s : ℕ) → waits W h x s ≡ false → KeptAt W h x s
 kept-at W h x s e unset n q = clash (and-both (ap not unset) (and-both (lt-ltb (nextStep h x s) h n) (eq-eqb (nextStep h x s % W) (s % W) q))) e

@@ -4,6 +4,7 @@ pub mod Limits
 pub mod Night
 pub mod Codes
 pub mod Replay
+pub mod Waiting
 pub mod Derived
 pub mod Answers
 pub mod Calls
