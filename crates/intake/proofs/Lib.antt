@@ -2,4 +2,5 @@
 pub mod Tests
 pub mod Places
 pub mod Marks
+pub mod Above
 pub mod Passed

@@ -2,11 +2,12 @@
 use yard::Answer;
 ghost use mathlib.Core.Path.{_≡_};
 ghost use mathlib.Core.Bool.{_&&_};
-ghost use mathlib.Core.List.{_∷_, []};
-ghost use Prim.Native.Nat.{_^_, _≤_};
+ghost use mathlib.Core.List.{_∷_, [], _++_};
+ghost use Prim.Native.Nat.{_^_, max, _≤_};
 ghost use lib.Dec.{leb};
-ghost use lib.ListN.{length};
+ghost use lib.ListN.{length, take, drop};
 ghost use Rattle.yard.specs.Limits.{limits};
+ghost use Rattle.yard.specs.Words.{most};
 ghost use Rattle.yard.specs.Night.{sum};
 ghost use Rattle.yard.specs.Answers.{says, test, verdict, countTest, trainTest, sumTest, inboundTest, listTest, codeTest};
 ghost use Rattle.yard.specs.Calls.{countTests};
@@ -164,8 +165,36 @@ pub fn power(k: usize) -> usize
     1 << k
 }
 
-// 7: each code below 2 to the steps, or else the first car with another.
-pub fn codes(codes: &[u16], steps: usize) -> Answer
+// Copies the first `count` items of a list to the front of a buffer.
+pub fn copy(items: &[u16], count: usize, out: &mut [u16])
+    requires { ⌜ (count ≤ length (now items)) × (count ≤ length (now out)) ⌝ }
+    ensures { λ _. ⌜ now (out .exit) ≡ take count (now (items .entry)) ++ drop count (now (out .entry)) ⌝ }
+{
+    for i in 0..count {
+        out[i] = items[i];
+    }
+}
+
+// The larger of two codes.
+fn larger(a: u16, b: u16) -> u16
+    ensures { λ r. ⌜ r ≡ max a b ⌝ }
+{
+    if a < b { b } else { a }
+}
+
+// The largest code, 0 where there is none.
+fn largest(codes: &[u16]) -> u16
+    ensures { λ r. ⌜ r ≡ most (λ code. code) (now (codes .entry)) ⌝ }
+{
+    let mut most: u16 = 0;
+    for i in 0..codes.len() {
+        most = larger(most, codes[i]);
+    }
+    most
+}
+
+// 7, by a search for the first car with a code of 2 to the steps or more.
+fn wide_code(codes: &[u16], steps: usize) -> Answer
     requires { ⌜ steps ≤ 16 ⌝ }
     ensures { λ r. ⌜ r ≡ codeTest steps (now (codes .entry)) ⌝ }
 {
@@ -174,6 +203,17 @@ pub fn codes(codes: &[u16], steps: usize) -> Answer
         if bound <= codes[i] as usize {
             return answer(7, i + 1, 0);
         }
+    }
+    answer(0, 0, 0)
+}
+
+// 7: each code below 2 to the steps, or else the first car with another. The largest code tells at once that there is none to look for.
+pub fn codes(codes: &[u16], steps: usize) -> Answer
+    requires { ⌜ steps ≤ 16 ⌝ }
+    ensures { λ r. ⌜ r ≡ codeTest steps (now (codes .entry)) ⌝ }
+{
+    if power(steps) <= largest(codes) as usize {
+        return wide_code(codes, steps);
     }
     answer(0, 0, 0)
 }
