@@ -13,7 +13,7 @@ use Rattle.yard.specs.Words.{first}
 use Rattle.yard.specs.Night.{itemOf}
 use Rattle.yard.proofs.First.{first-hits, first-goes, first-ends}
 use Rattle.yard.proofs.Tests.{item-at}
-use Rattle.yard.proofs.EarlySearch.{waits, lowestWaiting, someWaits, firstWaiting}
+use Rattle.yard.specs.Waiting.{waits, lowestWaiting, someWaits, firstWaiting}
 use Rattle.sorting.specs.declared.early.Early.{Early}
 use Rattle.sorting.specs.declared.early.Early.the-variants.{At, Never}
 use Rattle.sorting.specs.Early.{earlyFound}

@@ -1,38 +1,34 @@
 -- Laws of lists by car that a loop fills: from the front, or car by car in another order.
-use mathlib.Core.Path.{_≡_, refl, sym, ap, ap₂, _∙_, subst}
+use mathlib.Core.Path.{_≡_, sym, ap, ap₂, _∙_, subst}
 use mathlib.Core.Logic.{_⊎_, inl, inr, ⊎-elim}
-use mathlib.Core.List.{List, [], _∷_, _++_, map, append-assoc}
-use Prim.Native.Nat.{ℕ, zero, suc, _+_, _-_, _≤_, _<_}
-use native.Mathlib.Nat.{add-zero, add-suc, suc-add}
+use mathlib.Core.List.{List, [], _∷_, _++_, map, append-assoc, append-nil, map-append}
+use Prim.Native.Nat.{ℕ, suc, _+_, _-_, _≤_, _<_}
 use native.Mathlib.Numerals.{add-one}
 use native.Mathlib.Omega.{arith}
-use lib.ListN.{length, getD, take, drop, set, length-append, length-drop, length-set, take-append-drop, List·getD-append}
-use lib.Seq.{drop-cons, set-at, ext-getD, getD-append-add, getD-drop, getD-set-same, getD-set-other, length-take-le}
-use Rattle.yard.specs.Words.{count, place, upFrom}
+use lib.ListN.{length, getD, take, drop, set, length-append, length-drop, length-map, length-set, take-append-drop, drop-of-length-le, List·getD-append}
+use lib.Seq.{take-suc, take-all, drop-cons, set-at, ext-getD, getD-append-add, getD-drop, getD-set-same, getD-set-other, length-take-le}
+use Rattle.yard.specs.Words.{count, place}
 use Rattle.yard.specs.Night.{cars}
 use Rattle.yard.specs.Demands.{Within, EachOnce}
 use Rattle.yard.proofs.Numbers.{le-or-lt, below-suc, compared}
 use Rattle.yard.proofs.Lists.{count-upFrom-in, upFrom-bounds, count-append}
 use Rattle.yard.proofs.Order.{place-right, place-here, place-among}
 use Rattle.yard.proofs.Formed.{count-at, place-holds}
-use Rattle.yard.proofs.DerivedPlan.{map-item, by-car, length-by-car}
+use Rattle.yard.proofs.DerivedPlan.{map-item, length-by-car}
 
 -- ---- from the front
 
-map-last : (f : ℕ → ℕ) (a n : ℕ) → map f (upFrom a (suc n)) ≡ map f (upFrom a n) ++ (f (a + n) ∷ [])
-map-last f a zero = ap (λ (k : ℕ). f k ∷ []) (sym (add-zero a))
-map-last f a (suc n) = ap (λ (l : List ℕ). f a ∷ l) (map-last f (suc a) n ∙ ap (λ (k : ℕ). map f (upFrom (suc a) n) ++ (f k ∷ [])) (suc-add a n ∙ sym (add-suc a n)))
-
 -- one item more, at the place where the filled part ends
-pub fill-next : (f : ℕ → ℕ) (i : ℕ) (d : List ℕ) → i < length d → set (map f (cars i) ++ drop i d) i (f (i + 1)) ≡ map f (cars (i + 1)) ++ drop (i + 1) d
-fill-next f i d l =
-    ap (λ (t : List ℕ). set (map f (cars i) ++ t) i (f (i + 1))) (drop-cons d i 0 l) ∙
-    (set-at (map f (cars i)) (getD d i 0) (drop (suc i) d) (f (i + 1)) i (length-by-car f i) ∙
-    (sym (append-assoc (map f (cars i)) (f (i + 1) ∷ []) (drop (suc i) d)) ∙
-    ap₂ (λ (u : List ℕ) (k : ℕ). u ++ drop k d) (sym (ap (λ (k : ℕ). map f (cars k)) (add-one i) ∙ (map-last f 1 i ∙ ap (λ (k : ℕ). map f (cars i) ++ (f k ∷ [])) (one i)))) (sym (add-one i))))
-  where
-    one : (i : ℕ) → 1 + i ≡ i + 1
-    one i = omega arith
+pub fill-next : (f : ℕ → ℕ) (l d : List ℕ) (i : ℕ) → i < length l → i < length d → set (map f (take i l) ++ drop i d) i (f (getD l i 0)) ≡ map f (take (i + 1) l) ++ drop (i + 1) d
+fill-next f l d i m n =
+    ap (λ (t : List ℕ). set (map f (take i l) ++ t) i (f (getD l i 0))) (drop-cons d i 0 n) ∙
+    (set-at (map f (take i l)) (getD d i 0) (drop (suc i) d) (f (getD l i 0)) i (length-map (take i l) f ∙ length-take-le i l (omega arith)) ∙
+    (sym (append-assoc (map f (take i l)) (f (getD l i 0) ∷ []) (drop (suc i) d)) ∙
+    ap₂ (λ (u : List ℕ) (k : ℕ). u ++ drop k d) (sym (ap (map f) (ap (λ (k : ℕ). take k l) (add-one i) ∙ take-suc l i 0 m) ∙ map-append f (take i l) (getD l i 0 ∷ []))) (sym (add-one i))))
+
+-- a list of the same length is filled from end to end
+pub fill-whole : (f : ℕ → ℕ) (l d : List ℕ) (i : ℕ) → length l ≤ i → length d ≤ i → map f (take i l) ++ drop i d ≡ map f l
+fill-whole f l d i m n = ap₂ (λ (u v : List ℕ). map f u ++ v) (take-all i l m) (drop-of-length-le d n) ∙ append-nil (map f l)
 
 -- ---- car by car, in any order
 

@@ -3,8 +3,9 @@ pub mod Sums
 pub mod NextStep
 pub mod EarlyLeft
 pub mod Filling
-pub mod Runs
 pub mod Pairs
-pub mod Gathering
+pub mod Keys
+pub mod Dealing
 pub mod Counted
 pub mod Standing
+pub mod Tracks

@@ -10,7 +10,7 @@ use lib.Count.{trailingZeros, under}
 use lib.Dec.{ltb, eqb, lit<}
 use borrow.Author.Tests.{eq-eqb, ne-eqb, lt-ltb, le-ltb}
 use Rattle.yard.specs.Replay.{bit, nextStep}
-use Rattle.yard.proofs.EarlySearch.{waits}
+use Rattle.yard.specs.Waiting.{waits}
 use Rattle.yard.proofs.First.{first-ends}
 use Rattle.yard.proofs.Replay.{nextStep-step, nextStep-from}
 

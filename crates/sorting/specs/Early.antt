@@ -5,7 +5,7 @@ use mathlib.Core.List.{List}
 use lib.Dec.{leb}
 use Rattle.sorting.specs.declared.early.Early.{Early}
 use Rattle.sorting.specs.declared.early.Early.the-variants.{At, Never}
-use Rattle.yard.proofs.EarlySearch.{lowestWaiting, firstWaiting}
+use Rattle.yard.specs.Waiting.{lowestWaiting, firstWaiting}
 
 -- the first step at which a car waits, and the lowest such car
 abbrev pub earlyFound : ℕ → ℕ → List ℕ → Early

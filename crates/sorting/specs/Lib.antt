@@ -2,5 +2,4 @@
 pub mod Sums
 pub mod Early
 pub mod Pairs
-pub mod Runs
 pub mod Stages

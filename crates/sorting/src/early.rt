@@ -3,7 +3,7 @@ ghost use mathlib.Core.Path.{_≡_};
 ghost use Prim.Native.Nat.{_+_, _≤_, _<_};
 ghost use lib.ListN.{length};
 ghost use Rattle.yard.specs.Replay.{nextStep};
-ghost use Rattle.yard.proofs.EarlySearch.{waits};
+ghost use Rattle.yard.specs.Waiting.{waits};
 ghost use Rattle.sorting.specs.Early.{earlyFound};
 
 // The first early pull: its step and the lowest car of that step.

@@ -12,28 +12,28 @@ ghost use Rattle.yard.specs.Replay.{bit};
 ghost use Rattle.sorting.specs.Sums.{named, setBelow, firstAbove, mostNamed};
 
 // 1 where the code names the step, else 0.
-pub fn names(code: u16, step: usize) -> usize
+fn names(code: u16, step: usize) -> u16
     requires { ⌜ step < 16 ⌝ }
     ensures { λ r. ⌜ r ≡ tally (bit step code) ⌝ }
 {
-    ((code >> step) % 2) as usize
+    (code >> step) % 2
 }
 
-// How many codes name the step: the cars it pulls.
+// How many codes name the step: the cars it pulls. The count is as wide as a code, so that the machine counts many codes at once.
 pub fn pull(codes: &[u16], step: usize) -> usize
-    requires { ⌜ step < 16 ⌝ }
+    requires { ⌜ (step < 16) × (length (now codes) ≤ 4096) ⌝ }
     ensures { λ r. ⌜ r ≡ named (now (codes .entry)) step ⌝ }
 {
-    let mut cars: usize = 0;
+    let mut cars: u16 = 0;
     for i in 0..codes.len() {
         cars += names(codes[i], step);
     }
-    cars
+    cars as usize
 }
 
 // The first step that pulls more cars than there is room for, or steps where none does, by going over the steps.
 fn find_above(codes: &[u16], steps: usize, room: usize) -> usize
-    requires { ⌜ steps ≤ 16 ⌝ }
+    requires { ⌜ (steps ≤ 16) × (length (now codes) ≤ 4096) ⌝ }
     ensures { λ r. ⌜ r ≡ firstAbove room (now (codes .entry)) steps ⌝ }
 {
     for step in 0..steps {
@@ -44,12 +44,12 @@ fn find_above(codes: &[u16], steps: usize, room: usize) -> usize
     steps
 }
 
-// The same; only where there are more cars than room can a step pull too many.
-pub fn first_above(codes: &[u16], steps: usize, room: usize) -> usize
-    requires { ⌜ steps ≤ 16 ⌝ }
+// The same, for codes whose fullest pull is known; only where it is above the room is there a step to look for.
+pub fn first_above(codes: &[u16], steps: usize, room: usize, fullest: usize) -> usize
+    requires { ⌜ (steps ≤ 16) × (length (now codes) ≤ 4096) × (fullest ≡ mostNamed (now codes) steps) ⌝ }
     ensures { λ r. ⌜ r ≡ firstAbove room (now (codes .entry)) steps ⌝ }
 {
-    if room < codes.len() {
+    if room < fullest {
         return find_above(codes, steps, room);
     }
     steps
@@ -64,7 +64,7 @@ fn larger(a: usize, b: usize) -> usize
 
 // The cars of the fullest pull, 0 where there are no steps.
 pub fn fullest(codes: &[u16], steps: usize) -> usize
-    requires { ⌜ steps ≤ 16 ⌝ }
+    requires { ⌜ (steps ≤ 16) × (length (now codes) ≤ 4096) ⌝ }
     ensures { λ r. ⌜ r ≡ mostNamed (now (codes .entry)) steps ⌝ }
 {
     let mut most: usize = 0;
@@ -75,10 +75,10 @@ pub fn fullest(codes: &[u16], steps: usize) -> usize
 }
 
 // The set bits of a code.
-fn ones(code: u16) -> usize
+fn ones(code: u16) -> u16
     ensures { λ r. ⌜ (r ≡ ones code) × (r ≤ 16) ⌝ }
 {
-    u16::count_ones(code) as usize
+    u16::count_ones(code) as u16
 }
 
 // The low bits of a code, below a stage.
@@ -93,13 +93,14 @@ fn low(code: u16, stage: usize) -> u16
 }
 
 // The cars that roll in up to a stage: each once, and once more for each set bit of its code below the stage.
+// The sum is as wide as a code, which 4,095 cars fill with 16 bits each.
 pub fn passes(codes: &[u16], stage: usize) -> usize
-    requires { ⌜ (stage ≤ 16) × (length (now codes) ≤ 4096) ⌝ }
+    requires { ⌜ (stage ≤ 16) × (length (now codes) ≤ 4095) ⌝ }
     ensures { λ r. ⌜ r ≡ length (now (codes .entry)) + setBelow stage (now (codes .entry)) ⌝ }
 {
-    let mut cars: usize = codes.len();
+    let mut again: u16 = 0;
     for i in 0..codes.len() {
-        cars += ones(low(codes[i], stage));
+        again += ones(low(codes[i], stage));
     }
-    cars
+    codes.len() + again as usize
 }

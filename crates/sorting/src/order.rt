@@ -1,51 +1,13 @@
-// The order of the trains: each car's train and place in the inbound list, and the rule on neighbouring pairs.
+// The order of the trains: each car's place in the inbound list, and the rule on neighbouring pairs.
 ghost use mathlib.Core.Path.{_≡_};
 ghost use mathlib.Core.List.{_++_, map};
 ghost use Prim.Native.Nat.{_+_, _-_, _≤_, _<_};
 ghost use lib.ListN.{length, drop};
-ghost use Rattle.yard.specs.Words.{place, first};
-ghost use Rattle.yard.specs.Night.{cars, sum, trainOf};
+ghost use Rattle.yard.specs.Words.{place, first, tally, total, upFrom};
+ghost use Rattle.yard.specs.Night.{cars};
 ghost use Rattle.yard.specs.Answers.{ruled};
-ghost use Rattle.yard.specs.Demands.{Within, NoneEmpty, EachOnce};
-ghost use Rattle.sorting.specs.Pairs.{unruledAt, Sized};
-ghost use Rattle.sorting.specs.Runs.{Along};
-
-// The trains begun so far, and the cars up to the end of the last of them.
-pub struct Run {
-    pub train: usize,
-    pub end: usize,
-}
-
-// The run that has the car behind the first i: the same, or with the next train where this one ends there.
-fn advanced(lengths: &[u16], run: Run, i: usize) -> Run
-    requires { ⌜ Along (now lengths) run i × (i < sum (now lengths)) × (i < 4096) × NoneEmpty (now lengths) ⌝ }
-    ensures { λ r. ⌜ Along (now (lengths .entry)) r i × (i < r .end) ⌝ }
-{
-    let train = run.train;
-    if run.end == i {
-        Run {
-            train: train + 1,
-            end: i + lengths[train] as usize,
-        }
-    } else {
-        run
-    }
-}
-
-// The train of each of the first cars, in car order.
-pub fn trains(lengths: &[u16], count: usize, into: &mut [u16])
-    requires { ⌜ (count ≤ sum (now lengths)) × (count ≤ length (now into)) × Within 1 4096 (length (now lengths)) × (count ≤ 4096) × NoneEmpty (now lengths) ⌝ }
-    ensures { λ _. ⌜ now (into .exit) ≡ map (trainOf (now (lengths .entry))) (cars count) ++ drop count (now (into .entry)) ⌝ }
-{
-    let mut run = Run {
-        train: 1,
-        end: lengths[0] as usize,
-    };
-    for i in 0..count {
-        run = advanced(lengths, run, i);
-        into[i] = run.train as u16;
-    }
-}
+ghost use Rattle.yard.specs.Demands.{EachOnce};
+ghost use Rattle.sorting.specs.Pairs.{unruledBy, unruledAt, Part, Ordering};
 
 // The place of each car in the inbound list, from 0, in car order.
 pub fn places(inbound: &[u16], into: &mut [u16])
@@ -65,27 +27,58 @@ pub fn ruled(low: u16, high: u16, broken: bool) -> bool
     if broken { low < high } else { low <= high }
 }
 
-// Car j and the next are of one train and break the rule.
-pub fn unruled(trains: &[u16], places: &[u16], codes: &[u16], j: usize) -> bool
-    requires { ⌜ (1 ≤ j) × (j < length (now codes)) × Sized (now trains) (now places) (now codes) ⌝ }
-    ensures { λ r. ⌜ r ≡ unruledAt (now (trains .entry)) (now (places .entry)) (now (codes .entry)) j ⌝ }
+// Cars j and j + 1 break the rule that holds for a pair of one train.
+fn unruled(places: &[u16], codes: &[u16], j: usize) -> bool
+    requires { ⌜ (1 ≤ j) × (j < length (now codes)) × (length (now places) ≡ length (now codes)) ⌝ }
+    ensures { λ r. ⌜ r ≡ unruledBy (now (places .entry)) (now (codes .entry)) j ⌝ }
 {
-    if trains[j - 1] == trains[j] {
-        !ruled(codes[j - 1], codes[j], places[j] < places[j - 1])
-    } else {
-        false
-    }
+    !ruled(codes[j - 1], codes[j], places[j] < places[j - 1])
 }
 
-// The lowest car j that breaks the rule with the next, or the last car where there is none.
-pub fn first_unruled(trains: &[u16], places: &[u16], codes: &[u16]) -> usize
-    requires { ⌜ (1 ≤ length (now codes)) × Sized (now trains) (now places) (now codes) ⌝ }
-    ensures { λ r. ⌜ r ≡ first (unruledAt (now (trains .entry)) (now (places .entry)) (now (codes .entry))) (length (now (codes .entry)) - 1) 1 ⌝ }
+// 1 for true, 0 for false.
+fn tally(test: bool) -> u16
+    ensures { λ r. ⌜ r ≡ tally test ⌝ }
 {
-    for j in 1..codes.len() {
-        if unruled(trains, places, codes, j) {
+    if test { 1 } else { 0 }
+}
+
+// How many pairs of a train break the rule: its cars are those behind the first ones, up to the end. A count without a way out, so that the machine looks at many pairs at once.
+fn unruled_pairs(places: &[u16], codes: &[u16], before: usize, end: usize) -> u16
+    requires { ⌜ Part (now places) (now codes) before end ⌝ }
+    ensures { λ r. ⌜ r ≡ total (λ j. tally (unruledBy (now (places .entry)) (now (codes .entry)) j)) (upFrom (before + 1) (end - (before + 1))) ⌝ }
+{
+    let mut pairs: u16 = 0;
+    for j in before + 1..end {
+        pairs += tally(unruled(places, codes, j));
+    }
+    pairs
+}
+
+// The lowest car of a train that breaks the rule with the next, or its last car where there is none.
+fn unruled_in(places: &[u16], codes: &[u16], before: usize, end: usize) -> usize
+    requires { ⌜ Part (now places) (now codes) before end ⌝ }
+    ensures { λ r. ⌜ r ≡ first (unruledBy (now (places .entry)) (now (codes .entry))) (end - (before + 1)) (before + 1) ⌝ }
+{
+    for j in before + 1..end {
+        if unruled(places, codes, j) {
             return j;
         }
+    }
+    end
+}
+
+// The lowest car that breaks the rule with the next of its train, or the last car where there is none.
+pub fn first_unruled(lengths: &[u16], places: &[u16], codes: &[u16]) -> usize
+    requires { ⌜ Ordering (now lengths) (now places) (now codes) ⌝ }
+    ensures { λ r. ⌜ r ≡ first (unruledAt (now (lengths .entry)) (now (places .entry)) (now (codes .entry))) (length (now (codes .entry)) - 1) 1 ⌝ }
+{
+    let mut before: usize = 0;
+    for t in 0..lengths.len() {
+        let end = before + lengths[t] as usize;
+        if 0 < unruled_pairs(places, codes, before, end) {
+            return unruled_in(places, codes, before, end);
+        }
+        before = end;
     }
     codes.len()
 }

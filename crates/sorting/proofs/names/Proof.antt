@@ -11,11 +11,8 @@ cast-result c = search needs
 shr-result : tie.Need-shr-result
 shr-result c = search needs
 
-cast-result-2 : tie.Need-cast-result-2
-cast-result-2 c = search needs
-
 returns : tie.Need-returns
 returns c = sym (tally-bit (c .args .step) (c .args .code))
 
 pub names-spec : {M : Type 1} → statement M
-names-spec = tie.close (tie.spec cast-result shr-result cast-result-2 returns)
+names-spec = tie.close (tie.spec cast-result shr-result returns)

@@ -11,10 +11,10 @@ use Rattle.sorting.proofs.passes.Statement.{statement}
 use Rattle.sorting.proofs.passes.Tie as tie
 
 abbrev Inv-loop : tie.InvT-loop
-Inv-loop codes stage cars₀ i₀ i-end cars i = (i ≤ length codes) × (cars ≤ length codes + 16 * i) × (cars + setBelow stage (drop i codes) ≡ length codes + setBelow stage codes)
+Inv-loop codes stage again₀ i₀ i-end again i = (i ≤ length codes) × (again ≤ 16 * i) × (again + setBelow stage (drop i codes) ≡ setBelow stage codes)
 
 abbrev μ-loop : tie.MeasureT-loop
-μ-loop codes stage cars₀ i₀ i-end cars i = length codes - i
+μ-loop codes stage again₀ i₀ i-end again i = length codes - i
 
 loop-holds : tie.Need-loop-holds Inv-loop μ-loop
 loop-holds c = omega arith
@@ -31,8 +31,8 @@ low-requires c κs = omega arith
 ones-requires : tie.Need-ones-requires Inv-loop μ-loop
 ones-requires c κs = tt
 
-add-cars : tie.Need-add-cars Inv-loop μ-loop
-add-cars c = omega arith
+add-again : tie.Need-add-again Inv-loop μ-loop
+add-again c = omega arith
 
 add-i : tie.Need-add-i Inv-loop μ-loop
 add-i c = omega arith
@@ -48,6 +48,12 @@ loop-again c =
     let i = at-loop .loop .i in
     omega (arith, total-next (λ x. ones (x % 2 ^ stage)) codes i (c .before .before .before .loop-test .taken), c .ones .ensures .0, ap ones (c .before .low .ensures))
 
+cast-result : tie.Need-cast-result Inv-loop μ-loop
+cast-result c = omega arith
+
+add-result : tie.Need-add-result Inv-loop μ-loop
+add-result c = omega arith
+
 returns : tie.Need-returns Inv-loop μ-loop
 returns c = omega (arith, total-end (λ x. ones (x % 2 ^ c .before .before .before .args .stage)) (now (c .before .before .before .args .codes)) (c .before .loop .i) (c .loop-test .left))
 
@@ -62,8 +68,10 @@ passes-spec =
     shared-slice-read-low
     low-requires
     ones-requires
-    add-cars
+    add-again
     add-i
     loop-less
     loop-again
+    cast-result
+    add-result
     returns)

@@ -7,7 +7,7 @@ use lib.ListN.{length, getD, drop}
 use Rattle.yard.specs.Words.{tally}
 use Rattle.yard.specs.Replay.{bit}
 use Rattle.sorting.specs.Sums.{named}
-use Rattle.sorting.proofs.Sums.{tally-le, total-next, total-end}
+use Rattle.sorting.proofs.Sums.{tally-most, total-next, total-end}
 use Rattle.sorting.proofs.pull.Statement.{statement}
 use Rattle.sorting.proofs.pull.Tie as tie
 
@@ -32,7 +32,7 @@ names-requires c κs = omega arith
 add-cars : tie.Need-add-cars Inv-loop μ-loop
 add-cars c =
     let at-loop = c .before .before .before in
-    omega (arith, tally-le (at-loop .before .before .args .step) (getD (now (at-loop .before .before .args .codes)) (at-loop .loop .i) 0))
+    omega (arith, tally-most (bit (at-loop .before .before .args .step) (getD (now (at-loop .before .before .args .codes)) (at-loop .loop .i) 0)))
 
 add-i : tie.Need-add-i Inv-loop μ-loop
 add-i c = omega arith
@@ -46,7 +46,10 @@ loop-again c =
     let step = at-loop .before .before .args .step in
     let codes = now (at-loop .before .before .args .codes) in
     let i = at-loop .loop .i in
-    omega (arith, total-next (λ x. tally (bit step x)) codes i (c .before .before .loop-test .taken), tally-le step (getD codes i 0))
+    omega (arith, total-next (λ x. tally (bit step x)) codes i (c .before .before .loop-test .taken), tally-most (bit step (getD codes i 0)))
+
+cast-result : tie.Need-cast-result Inv-loop μ-loop
+cast-result c = omega arith
 
 returns : tie.Need-returns Inv-loop μ-loop
 returns c = omega (arith, total-end (λ x. tally (bit (c .before .before .before .args .step) x)) (now (c .before .before .before .args .codes)) (c .before .loop .i) (c .loop-test .left))
@@ -65,4 +68,5 @@ pull-spec =
     add-i
     loop-less
     loop-again
+    cast-result
     returns)

@@ -1,24 +1,9 @@
--- The proof of `unruled`: a pair of one train that breaks the rule.
+-- The proof of `unruled`: the rule on the two items of each list.
 use denote.Ref.{now}
-use Rattle.sorting.proofs.Pairs.{one-train, two-trains}
+use Rattle.sorting.proofs.Pairs.{by-index}
 use borrow.Author.Needs.{needs}
 use Rattle.sorting.proofs.order.unruled.Statement.{statement}
 use Rattle.sorting.proofs.order.unruled.Tie as tie
-
-sub-if1 : tie.Need-sub-if1
-sub-if1 c = search needs
-
-mul-if1 : tie.Need-mul-if1
-mul-if1 c = search needs
-
-shared-slice-read-if1 : tie.Need-shared-slice-read-if1
-shared-slice-read-if1 c = search needs
-
-mul-if1-2 : tie.Need-mul-if1-2
-mul-if1-2 c = search needs
-
-shared-slice-read-if1-2 : tie.Need-shared-slice-read-if1-2
-shared-slice-read-if1-2 c = search needs
 
 sub-ruled : tie.Need-sub-ruled
 sub-ruled c = search needs
@@ -55,23 +40,13 @@ ruled-requires c κs = search needs
 
 returns : tie.Need-returns
 returns c =
-    let args = c .before .before .before .before .before .before .before .before .before .before .before .args in
-    one-train (now (args .trains)) (now (args .places)) (now (args .codes)) (args .j) (c .ruled .result) (c .before .before .before .before .before .if1 .taken) (c .ruled .ensures)
-
-returns-2 : tie.Need-returns-2
-returns-2 c =
-    let args = c .before .before .before .before .before .before .args in
-    two-trains (now (args .trains)) (now (args .places)) (now (args .codes)) (args .j) (c .if1 .left)
+    let at = c .before .before .before .before .before .before .before in
+    by-index (now (at .args .places)) (now (at .args .codes)) (at .args .j) (c .ruled .result) (c .ruled .ensures)
 
 pub unruled-spec : {M : Type 1} → statement M
 unruled-spec =
     tie.close
     (tie.spec
-    sub-if1
-    mul-if1
-    shared-slice-read-if1
-    mul-if1-2
-    shared-slice-read-if1-2
     sub-ruled
     mul-ruled
     shared-slice-read-ruled
@@ -83,5 +58,4 @@ unruled-spec =
     mul-ruled-4
     shared-slice-read-ruled-4
     ruled-requires
-    returns
-    returns-2)
+    returns)
