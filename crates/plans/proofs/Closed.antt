@@ -13,7 +13,7 @@ use Rattle.yard.specs.declared.Answer.{Answer}
 use Rattle.yard.specs.Night.{cars}
 use Rattle.yard.specs.Answers.{says, test}
 use Rattle.yard.proofs.DerivedPlan.{length-by-car}
-use Rattle.yard.proofs.EarlySearch.{firstWaiting, lowestWaiting}
+use Rattle.yard.specs.Waiting.{firstWaiting, lowestWaiting}
 use Rattle.sorting.specs.declared.early.Early.{Early}
 use Rattle.sorting.specs.declared.early.Early.the-variants.{At, Never}
 use Rattle.sorting.specs.Early.{earlyFound}

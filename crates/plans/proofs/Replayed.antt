@@ -74,22 +74,18 @@ module _ (p : Plan) (f : Listed (p .night .lengths) (p .night .inbound)) (pos : 
     -- 9: a pair that breaks the rule
     pair-is : first (unruled p) (length (p .night .inbound) - 1) 1 ≡ firstPair (p .night .lengths) (p .night .inbound) (p .codes)
     pair-is =
-        first-same (unruled p) (unruledAt trains places (p .codes)) (length (p .night .inbound) - 1) 1 (λ j l m. alike j (l, omega arith) (omega arith, omega arith)) ∙
-        ap (λ (n : ℕ). first (unruledAt (map (trainOf (p .night .lengths)) (cars n)) (map (λ car. place car (p .night .inbound)) (cars n)) (p .codes)) (n - 1) 1) (sym each)
+        first-same (unruled p) (unruledAt (p .night .lengths) places (p .codes)) (length (p .night .inbound) - 1) 1 (λ j l m. alike j (l, omega arith) (omega arith, omega arith)) ∙
+        ap (λ (n : ℕ). first (unruledAt (p .night .lengths) (map (λ car. place car (p .night .inbound)) (cars n)) (p .codes)) (n - 1) 1) (sym each)
       where
         n : ℕ
         n = length (p .night .inbound)
 
-        trains : List ℕ
-        trains = map (trainOf (p .night .lengths)) (cars n)
-
         places : List ℕ
         places = map (λ car. place car (p .night .inbound)) (cars n)
 
-        alike : (j : ℕ) → Within 1 n j → Within 1 n (suc j) → unruled p j ≡ unruledAt trains places (p .codes) j
+        alike : (j : ℕ) → Within 1 n j → Within 1 n (suc j) → unruled p j ≡ unruledAt (p .night .lengths) places (p .codes) j
         alike j w v =
-            ap₂ (λ (s b : Bool). s && not (ruled (codeOf p j) (codeOf p (suc j)) b))
-            (ap₂ (λ (a b : ℕ). eqb a b) (sym (by-car (trainOf (p .night .lengths)) n j w)) (sym (by-car (trainOf (p .night .lengths)) n (suc j) v)))
+            ap (λ (b : Bool). pair (p .night .lengths) j && not (ruled (codeOf p j) (codeOf p (suc j)) b))
             (ap₂ (λ (a b : ℕ). ltb a b) (sym (by-car (λ car. place car (p .night .inbound)) n (suc j) v)) (sym (by-car (λ car. place car (p .night .inbound)) n j w)))
 
     pair-test : 1 ≤ length (p .night .inbound) → orderTest p ≡ pairTest (p .night .lengths) (p .night .inbound) (p .codes)

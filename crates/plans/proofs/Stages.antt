@@ -1,29 +1,34 @@
 -- The yard at a stage: the order worked out from the codes is one in which each car stands once, and gives each car the track and place of the replay.
 use mathlib.Core.Path.{_≡_, refl, sym, ap, ap₂, _∙_, subst}
-use mathlib.Core.Bool.{Bool, true, false}
-use mathlib.Core.List.{List, _++_, map, append-nil}
-use Prim.Native.Nat.{ℕ, suc, _+_, _-_, _≤_, _<_}
-use native.Mathlib.Nat.{le-refl, sub-zero, add-zero}
+use mathlib.Core.Bool.{Bool, true, false, cond}
+use mathlib.Core.List.{List, [], _∷_, _++_, map}
+use Prim.Native.Nat.{ℕ, _+_, _-_, _%_, _<_}
+use native.Mathlib.Nat.{mod-lt}
 use native.Mathlib.Omega.{arith}
-use lib.ListN.{length, getD, drop, drop-of-length-le}
-use Rattle.yard.specs.Words.{total, count}
+use lib.Dec.{ltb, eqb}
+use lib.ListN.{length, getD, drop, length-append, List·getD-append}
+use Rattle.yard.specs.Words.{count, place}
 use Rattle.yard.specs.Night.{cars, trainOf, itemOf}
-use Rattle.yard.specs.Demands.{Within, Listed, EachOnce}
-use Rattle.yard.proofs.Lists.{total-length}
-use Rattle.yard.proofs.Replay.{sorted, sorted-count, sorted-total}
+use Rattle.yard.specs.Replay.{nextStep}
+use Rattle.yard.specs.Demands.{Within, EachOnce}
+use Rattle.yard.proofs.Lists.{count-head, count-tail, upFrom-bounds, keep-same}
+use Rattle.yard.proofs.Replay.{sorted-count}
 use Rattle.yard.proofs.Building.{train-cars}
 use Rattle.yard.proofs.DerivedPlan.{by-car, length-by-car}
-use Rattle.sorting.specs.Stages.{CarsOf, sortedTo, Standable, Stood}
+use Rattle.sorting.specs.Stages.{CarsOf, sortedTo, trackBy, placeBy, Standable}
 use Rattle.sorting.proofs.Filling.{item-within}
-use Rattle.sorting.proofs.Gathering.{sortedTo-is}
+use Rattle.sorting.proofs.Keys.{sortedTo-is, sortedTo-length}
 use Rattle.plans.specs.Closed.{Placeable, Placed}
 
--- the order at a stage has the cars that came in, each as often
-pub sortedTo-length : (codes order : List ℕ) (s : ℕ) → length (sortedTo codes order s) ≡ length order
-sortedTo-length codes order s =
-    ap length (sortedTo-is codes order s) ∙
-    (sym (total-length (sorted (λ c. itemOf codes c) order s)) ∙ (sorted-total (λ c. itemOf codes c) order (λ x. 1) s ∙ total-length order))
+map-same : (f g : ℕ → ℕ) (l : List ℕ) → ((x : ℕ) → 0 < count x l → f x ≡ g x) → map f l ≡ map g l
+map-same f g [] e = refl
+map-same f g (x ∷ l) e = ap₂ (λ (y : ℕ) (r : List ℕ). y ∷ r) (e x (count-head x l)) (map-same f g l (λ y m. e y (count-tail y x l m)))
 
+-- lists by car that agree on the cars
+pub by-car-same : (f g : ℕ → ℕ) (n : ℕ) → ((car : ℕ) → Within 1 n car → f car ≡ g car) → map f (cars n) ≡ map g (cars n)
+by-car-same f g n e = map-same f g (cars n) (λ x m. let b = upFrom-bounds x 1 n m in e x (b .0, omega (arith, b .1)))
+
+-- the order at a stage has each car as often as came in
 sortedTo-once : (codes order : List ℕ) (s : ℕ) → EachOnce order → EachOnce (sortedTo codes order s)
 sortedTo-once codes order s once car =
     ap (λ (l : List ℕ). count car l) (sortedTo-is codes order s) ∙
@@ -33,37 +38,62 @@ module _ (lengths inbound codes : List ℕ) (W h stage : ℕ) (on at : List ℕ)
   pub cars-of : CarsOf (length codes) inbound
   cars-of i m = subst (λ (n : ℕ). Within 1 n (getD inbound i 0)) (sym (p .counted .each)) (item-within inbound (p .lists .once) i m)
 
-  train-small : (car : ℕ) → Within 1 (length codes) car → itemOf (map (trainOf lengths) (cars (length codes))) car ≤ 512
-  train-small car w =
-      let r = train-cars lengths inbound (p .lists) car (w .0, omega (arith, w .1, p .counted .each)) in
-      omega (arith, by-car (trainOf lengths) (length codes) car w, r .1, r .2, p .counted .trains .1)
+  -- a car's track is one of 16 sorting tracks and 64 destinations
+  track-below : (car : ℕ) → Within 1 (length inbound) car → trackBy lengths codes W h stage car < 80
+  track-below car w = go (ltb next h)
+    where
+      next : ℕ
+      next = nextStep h (itemOf codes car) stage
 
-  -- what `stand` asks holds of the order and the trains
-  standable : Standable (sortedTo codes inbound stage) codes (map (trainOf lengths) (cars (length codes))) W h stage on at
-  standable =
-      let same = sortedTo-length codes inbound stage in
-      record {
-        once = sortedTo-once codes inbound stage (p .lists .once);
-        few = omega (arith, same, p .counted .cars .1);
-        coded = p .counted .each ∙ sym same;
-        trained = length-by-car (trainOf lengths) (length codes) ∙ (p .counted .each ∙ sym same);
-        tracks = p .tracks;
-        stage = p .upto;
-        steps = p .steps;
-        train = λ car w. train-small car (w .0, omega (arith, w .1, same, p .counted .each));
-        roomOn = omega (arith, same, p .roomOn);
-        roomAt = omega (arith, same, p .roomAt);
-      }
+      go : (b : Bool) → cond b (next % W) (W + trainOf lengths car - 1) < 80
+      go true = omega (arith, mod-lt next (p .tracks .0), p .tracks .1)
+      go false =
+          let r = train-cars lengths inbound (p .lists) car w in
+          omega (arith, r .1, r .2, p .counted .trains .1, p .tracks .0, p .tracks .1)
 
-  module _ (order trains : List ℕ) (sorts : order ≡ sortedTo codes inbound stage) (fills : trains ≡ map (trainOf lengths) (cars (length codes))) where
-    pub stands : Standable order codes trains W h stage on at
-    stands = subst (λ (o : List ℕ). Standable o codes trains W h stage on at) (sym sorts) (subst (λ (t : List ℕ). Standable (sortedTo codes inbound stage) codes t W h stage on at) (sym fills) standable)
+  module _ (order on₁ : List ℕ) (sorts : order ≡ sortedTo codes inbound stage) (fills : on₁ ≡ map (trackBy lengths codes W h stage) (cars (length codes)) ++ drop (length codes) on) where
+    same : length order ≡ length inbound
+    same = ap length sorts ∙ sortedTo-length codes inbound stage
 
-    pub stood-placed : (on₁ at₁ : List ℕ) → Stood order codes trains W h stage on at on₁ at₁ → Placed lengths inbound codes W h stage on at on₁ at₁
-    stood-placed on₁ at₁ s = subst (λ (t : List ℕ). Stood (sortedTo codes inbound stage) codes t W h stage on at on₁ at₁) fills (subst (λ (o : List ℕ). Stood o codes trains W h stage on at on₁ at₁) sorts s)
+    order-once : EachOnce order
+    order-once = subst EachOnce (sym sorts) (sortedTo-once codes inbound stage (p .lists .once))
 
--- a list of the right length is filled by car from end to end
-pub filled-whole : (f : ℕ → ℕ) (n : ℕ) (before now : List ℕ) → length before ≡ n → now ≡ map f (cars n) ++ drop n before → now ≡ map f (cars n)
-filled-whole f n before now e is =
-    let short : length before ≤ n = omega (arith, e) in
-    is ∙ (ap (λ (l : List ℕ). map f (cars n) ++ l) (drop-of-length-le before short) ∙ append-nil (map f (cars n)))
+    -- the item of a car in the list of tracks is its track
+    item-track : (car : ℕ) → Within 1 (length inbound) car → itemOf on₁ car ≡ trackBy lengths codes W h stage car
+    item-track car w =
+        let track = trackBy lengths codes W h stage in
+        let n = length codes in
+        ap (λ (l : List ℕ). itemOf l car) fills ∙
+        (List·getD-append (map track (cars n)) (drop n on) 0 (car - 1) (omega (arith, length-by-car track n, w .0, w .1, p .counted .each)) ∙ by-car track n car (w .0, omega (arith, w .1, p .counted .each)))
+
+    pub standable : Standable order on₁ at
+    standable =
+        let track = trackBy lengths codes W h stage in
+        let n = length codes in
+        record {
+          once = order-once;
+          few = omega (arith, same, p .counted .cars .1);
+          given = omega (arith, same, p .counted .each, ap length fills, length-append (map track (cars n)) (drop n on), length-by-car track n);
+          track = λ car w. let v : Within 1 (length inbound) car = (w .0, omega (arith, w .1, same)) in omega (arith, item-track car v, track-below car v);
+          room = omega (arith, same, p .roomAt);
+        }
+
+    pub placed : (at₁ : List ℕ) → at₁ ≡ map (placeBy order (itemOf on₁)) (cars (length order)) ++ drop (length order) at → Placed lengths inbound codes W h stage on at on₁ at₁
+    placed at₁ is =
+        let track = trackBy lengths codes W h stage in
+        record {
+          tracks = fills ∙ ap (λ (k : ℕ). map track (cars k) ++ drop k on) (p .counted .each);
+          places =
+              is ∙
+              (ap (λ (k : ℕ). map (placeBy order (itemOf on₁)) (cars k) ++ drop k at) same ∙
+              (ap (λ (l : List ℕ). l ++ drop (length inbound) at) (by-car-same (placeBy order (itemOf on₁)) (placeBy order track) (length inbound) place-same) ∙
+              ap (λ (o : List ℕ). map (placeBy o track) (cars (length inbound)) ++ drop (length inbound) at) sorts));
+        }
+      where
+        among : (car : ℕ) → 0 < count car order → Within 1 (length inbound) car
+        among car m =
+            let b = upFrom-bounds car 1 (length order) (subst (λ (k : ℕ). 0 < k) (order-once car) m) in
+            (b .0, omega (arith, b .1, same))
+
+        place-same : (car : ℕ) → Within 1 (length inbound) car → placeBy order (itemOf on₁) car ≡ placeBy order (trackBy lengths codes W h stage) car
+        place-same car w = ap (λ (l : List ℕ). place car l) (keep-same _ _ order (λ c m. ap₂ (λ (a b : ℕ). eqb a b) (item-track car w) (item-track c (among c m))))

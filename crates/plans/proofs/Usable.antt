@@ -20,7 +20,7 @@ use Rattle.yard.proofs.First.{first-none, first-fails}
 use Rattle.yard.proofs.Tests.{item-at}
 use Rattle.yard.proofs.Early.{Kept, kept-of-gaps}
 use Rattle.yard.proofs.Plans.{usable-gaps}
-use Rattle.yard.proofs.EarlySearch.{waits, lowestWaiting, someWaits, firstWaiting}
+use Rattle.yard.specs.Waiting.{waits, lowestWaiting, someWaits, firstWaiting}
 use Rattle.codes.proofs.Gap.{usable-fewest}
 use Rattle.codes.specs.Wider.{OfEight, wider, firstWider}
 use Rattle.plans.specs.Closed.{waitTest}

@@ -3,20 +3,20 @@ use Prim.Native.Nat.{ℕ, suc, _-_, _≤_}
 use mathlib.Core.Path.{_≡_}
 use mathlib.Core.List.{List, [], _∷_, _++_, map}
 use lib.Dec.{leb, eqb}
-use lib.ListN.{length}
+use lib.ListN.{length, drop}
 use Rattle.yard.specs.declared.Answer.{Answer}
 use Rattle.yard.specs.Limits.{limits}
 use Rattle.yard.specs.Words.{place, first}
-use Rattle.yard.specs.Night.{nightOf, cars, trainOf}
+use Rattle.yard.specs.Night.{nightOf, cars}
 use Rattle.yard.specs.Answers.{says, test, listTest, codeTest}
 use Rattle.yard.specs.Calls.{nightTests}
 use Rattle.yard.specs.Demands.{Within, Listed}
-use Rattle.yard.proofs.EarlySearch.{firstWaiting, lowestWaiting}
+use Rattle.yard.specs.Waiting.{firstWaiting, lowestWaiting}
 use Rattle.sorting.specs.declared.early.Early.{Early}
 use Rattle.sorting.specs.declared.early.Early.the-variants.{At, Never}
 use Rattle.sorting.specs.Sums.{named, firstAbove}
 use Rattle.sorting.specs.Pairs.{unruledAt}
-use Rattle.sorting.specs.Stages.{sortedTo, Stood}
+use Rattle.sorting.specs.Stages.{sortedTo, trackBy, placeBy}
 
 -- 2, 3 and 4: the lists of a plan
 abbrev pub givenTests : List ℕ → List ℕ → List ℕ → List Answer
@@ -42,7 +42,7 @@ soundTests W C h codes = codeTest h codes ∷ waitTest W h codes ∷ fullTest C 
 -- 9: the lowest car that breaks the rule with the next
 abbrev pub firstPair : List ℕ → List ℕ → List ℕ → ℕ
 firstPair lengths inbound codes =
-    first (unruledAt (map (trainOf lengths) (cars (length codes))) (map (λ car. place car inbound) (cars (length codes))) codes) (length codes - 1) 1
+    first (unruledAt lengths (map (λ car. place car inbound) (cars (length codes))) codes) (length codes - 1) 1
 
 abbrev pub pairTest : List ℕ → List ℕ → List ℕ → Answer
 pairTest lengths inbound codes = test (leb (length codes) (firstPair lengths inbound codes)) (says 9 (suc (firstPair lengths inbound codes)) 0)
@@ -64,11 +64,11 @@ pub record Placeable (lengths inbound codes : List ℕ) (W h stage : ℕ) (on at
   pub lists : Listed lengths inbound
   pub tracks : Within 1 16 W
   pub upto : stage ≤ h
-  pub steps : h ≤ 16
+  pub steps : h ≤ 8
   pub roomOn : length inbound ≤ length on
   pub roomAt : length inbound ≤ length at
 
--- each car's track and place at a stage, as the order in which the cars then stand gives them
-abbrev pub Placed : List ℕ → List ℕ → List ℕ → ℕ → ℕ → ℕ → List ℕ → List ℕ → List ℕ → List ℕ → Type 0
-Placed lengths inbound codes W h stage on₀ at₀ on₁ at₁ =
-    Stood (sortedTo codes inbound stage) codes (map (trainOf lengths) (cars (length codes))) W h stage on₀ at₀ on₁ at₁
+-- each car's track and place at a stage, as the order in which the cars then stand gives them, and the rest as it was
+pub record Placed (lengths inbound codes : List ℕ) (W h stage : ℕ) (on₀ at₀ on₁ at₁ : List ℕ) : Type 0 where
+  pub tracks : on₁ ≡ map (trackBy lengths codes W h stage) (cars (length inbound)) ++ drop (length inbound) on₀
+  pub places : at₁ ≡ map (placeBy (sortedTo codes inbound stage) (trackBy lengths codes W h stage)) (cars (length inbound)) ++ drop (length inbound) at₀

@@ -47,11 +47,11 @@ fn kept(codes: &[u16], tracks: usize, steps: usize) -> Answer
 }
 
 // 6: no track overfilled, or else the first such step and its cars.
-fn full(codes: &[u16], room: usize, steps: usize) -> Answer
-    requires { ⌜ steps ≤ 16 ⌝ }
+fn full(codes: &[u16], fullest: usize, room: usize, steps: usize) -> Answer
+    requires { ⌜ (steps ≤ 16) × (length (now codes) ≤ 4096) × (fullest ≡ mostNamed (now codes) steps) ⌝ }
     ensures { λ r. ⌜ r ≡ fullTest room steps (now (codes .entry)) ⌝ }
 {
-    let step = sorting::first_above(codes, steps, room);
+    let step = sorting::first_above(codes, steps, room, fullest);
     if step < steps {
         intake::answer(6, step, sorting::pull(codes, step))
     } else {
@@ -59,9 +59,9 @@ fn full(codes: &[u16], room: usize, steps: usize) -> Answer
     }
 }
 
-// 7, 8 and 6: what the codes alone can break.
-fn sound(codes: &[u16], tracks: usize, room: usize, steps: usize) -> Answer
-    requires { ⌜ (0 < tracks) × (steps ≤ 8) ⌝ }
+// 7, 8 and 6: what the codes alone can break, with their fullest pull.
+fn sound(codes: &[u16], fullest: usize, tracks: usize, room: usize, steps: usize) -> Answer
+    requires { ⌜ (0 < tracks) × (steps ≤ 8) × (length (now codes) ≤ 4096) × (fullest ≡ mostNamed (now codes) steps) ⌝ }
     ensures { λ r. ⌜ r ≡ verdict (soundTests tracks room steps (now (codes .entry))) (says 0 0 0) ⌝ }
 {
     let below = intake::codes(codes, steps);
@@ -72,7 +72,7 @@ fn sound(codes: &[u16], tracks: usize, room: usize, steps: usize) -> Answer
     if pulled.number != 0 {
         return pulled;
     }
-    full(codes, room, steps)
+    full(codes, fullest, room, steps)
 }
 
 // The lowest car that breaks the rule with the next, or the last car where there is none.
@@ -81,27 +81,21 @@ fn first_pair(lengths: &[u16], inbound: &[u16], codes: &[u16]) -> usize
     ensures { λ r. ⌜ r ≡ firstPair (now (lengths .entry)) (now (inbound .entry)) (now (codes .entry)) ⌝ }
 {
     let n = codes.len();
-    let mut trains = [0u16; 512];
     let mut places = [0u16; 512];
-    sorting::order::trains(lengths, n, &mut trains);
     sorting::order::places(inbound, &mut places);
-    sorting::order::first_unruled(&trains[0..n], &places[0..n], codes)
+    sorting::order::first_unruled(lengths, &places[0..n], codes)
 }
 
 // 9: the trains in order, or else the lowest second car of a pair that breaks the rule; then the passes and the fullest pull.
-fn ordered(lengths: &[u16], inbound: &[u16], codes: &[u16], steps: usize) -> Answer
-    requires { ⌜ Counted (now lengths) (now inbound) (now codes) × Listed (now lengths) (now inbound) × (steps ≤ 16) ⌝ }
+fn ordered(lengths: &[u16], inbound: &[u16], codes: &[u16], fullest: usize, steps: usize) -> Answer
+    requires { ⌜ Counted (now lengths) (now inbound) (now codes) × Listed (now lengths) (now inbound) × (steps ≤ 16) × (fullest ≡ mostNamed (now codes) steps) ⌝ }
     ensures { λ r. ⌜ r ≡ verdict (pairTest (now (lengths .entry)) (now (inbound .entry)) (now (codes .entry)) ∷ []) (says 0 (length (now (codes .entry)) + setBelow steps (now (codes .entry))) (mostNamed (now (codes .entry)) steps)) ⌝ }
 {
     let j = first_pair(lengths, inbound, codes);
     if j < codes.len() {
         return intake::answer(9, j + 1, 0);
     }
-    intake::answer(
-        0,
-        sorting::passes(codes, steps),
-        sorting::fullest(codes, steps),
-    )
+    intake::answer(0, sorting::passes(codes, steps), fullest)
 }
 
 // A plan is accepted exactly if its lists and codes are well formed and its replay pulls no car early, overfills no track and builds every train in order.
@@ -123,11 +117,12 @@ pub fn check(
     if listed.number != 0 {
         return listed;
     }
-    let replayed = sound(codes, tracks, room, steps);
+    let fullest = sorting::fullest(codes, steps);
+    let replayed = sound(codes, fullest, tracks, room, steps);
     if replayed.number != 0 {
         return replayed;
     }
-    ordered(lengths, inbound, codes, steps)
+    ordered(lengths, inbound, codes, fullest, steps)
 }
 
 // 2, 3 and 4: the lists of a plan, and two buffers of these sizes.
@@ -146,7 +141,7 @@ fn placed(lengths: &[u16], inbound: &[u16], codes: &[u16], on: usize, at: usize)
     intake::list(5, inbound.len() <= at)
 }
 
-// Each car's track and place at a stage, written into the two buffers, with two lists by car lent for the trains and the order.
+// Each car's track and place at a stage, written into the two buffers, with a list by car lent for the order.
 fn stand_with(
     lengths: &[u16],
     inbound: &[u16],
@@ -154,17 +149,16 @@ fn stand_with(
     tracks: usize,
     steps: usize,
     stage: usize,
-    trains: &mut [u16],
     order: &mut [u16],
     on: &mut [u16],
     at: &mut [u16],
 )
-    requires { ⌜ Placeable (now lengths) (now inbound) (now codes) tracks steps stage (now on) (now at) × (length (now trains) ≡ length (now codes)) × (length (now order) ≡ length (now codes)) ⌝ }
+    requires { ⌜ Placeable (now lengths) (now inbound) (now codes) tracks steps stage (now on) (now at) × (length (now order) ≡ length (now codes)) ⌝ }
     ensures { λ _. ⌜ Placed (now (lengths .entry)) (now (inbound .entry)) (now (codes .entry)) tracks steps stage (now (on .entry)) (now (at .entry)) (now (on .exit)) (now (at .exit)) ⌝ }
 {
-    sorting::order::trains(lengths, codes.len(), trains);
     sorting::stage::sort(inbound, codes, stage, order);
-    sorting::stage::stand(order, codes, trains, tracks, steps, stage, on, at);
+    sorting::stage::tracks(lengths, codes, tracks, steps, stage, on);
+    sorting::stage::places(order, on, at);
 }
 
 // Each car's track and place at a stage, written into the two buffers.
@@ -182,7 +176,6 @@ fn stand(
     ensures { λ _. ⌜ Placed (now (lengths .entry)) (now (inbound .entry)) (now (codes .entry)) tracks steps stage (now (on .entry)) (now (at .entry)) (now (on .exit)) (now (at .exit)) ⌝ }
 {
     let n = codes.len();
-    let mut trains = [0u16; 512];
     let mut order = [0u16; 512];
     stand_with(
         lengths,
@@ -191,7 +184,6 @@ fn stand(
         tracks,
         steps,
         stage,
-        &mut trains[0..n],
         &mut order[0..n],
         on,
         at,
@@ -224,7 +216,8 @@ pub fn replay(
     if listed.number != 0 {
         return listed;
     }
-    let replayed = sound(codes, tracks, room, steps);
+    let fullest = sorting::fullest(codes, steps);
+    let replayed = sound(codes, fullest, tracks, room, steps);
     if replayed.number != 0 {
         return replayed;
     }

@@ -38,49 +38,61 @@ returns-2 c =
     let given = c .before .before .given in
     check-given l i k (at .args .tracks) (at .args .room) (at .args .steps) (counts .result) (counts .ensures) (c .before .before .before .if1 .left) (given .result) (given .ensures) (c .if2 .taken)
 
-sound-requires : tie.Need-sound-requires
-sound-requires c κs =
+fullest-requires : tie.Need-fullest-requires
+fullest-requires c κs =
     let at = c .before .before .before .before .before .before .before .before .before in
     let l = now (at .args .lengths) in
     let i = now (at .args .inbound) in
     let k = now (at .args .codes) in
     let counts = c .before .before .before .before .before .counts in
     let w = counted-within l i k (at .args .tracks) (at .args .room) (at .args .steps) (counts .result) (counts .ensures) (c .before .before .before .if1 .left) in
-    (w .tracks .0, omega (arith, w .steps .1))
+    let g = given-listed l i k (at .args .tracks) (at .args .room) (at .args .steps) (c .before .before .given .result) (c .before .before .given .ensures) (c .if2 .left) in
+    (omega (arith, w .steps .1), omega (arith, w .cars .1, g .1))
+
+sound-requires : tie.Need-sound-requires
+sound-requires c κs =
+    let at = c .before .before .before .before .before .before .before .before .before .before in
+    let l = now (at .args .lengths) in
+    let i = now (at .args .inbound) in
+    let k = now (at .args .codes) in
+    let counts = c .before .before .before .before .before .before .counts in
+    let w = counted-within l i k (at .args .tracks) (at .args .room) (at .args .steps) (counts .result) (counts .ensures) (c .before .before .before .before .if1 .left) in
+    let g = given-listed l i k (at .args .tracks) (at .args .room) (at .args .steps) (c .before .before .before .given .result) (c .before .before .before .given .ensures) (c .before .if2 .left) in
+    (w .tracks .0, omega (arith, w .steps .1), omega (arith, w .cars .1, g .1), c .fullest .ensures)
 
 returns-3 : tie.Need-returns-3
 returns-3 c =
-    let at = c .before .before .before .before .before .before .before .before .before .before .before .before in
-    let l = now (at .args .lengths) in
-    let i = now (at .args .inbound) in
-    let k = now (at .args .codes) in
-    let counts = c .before .before .before .before .before .before .before .before .counts in
-    let given = c .before .before .before .before .before .given in
-    let sound = c .before .before .sound in
-    check-sound l i k (at .args .tracks) (at .args .room) (at .args .steps) (counts .result) (counts .ensures) (c .before .before .before .before .before .before .if1 .left) (given .result) (given .ensures) (c .before .before .before .if2 .left) (sound .result) (sound .ensures) (c .if3 .taken)
-
-ordered-requires : tie.Need-ordered-requires
-ordered-requires c κs =
-    let at = c .before .before .before .before .before .before .before .before .before .before .before .before in
-    let l = now (at .args .lengths) in
-    let i = now (at .args .inbound) in
-    let k = now (at .args .codes) in
-    let counts = c .before .before .before .before .before .before .before .before .counts in
-    let given = c .before .before .before .before .before .given in
-    let w = counted-within l i k (at .args .tracks) (at .args .room) (at .args .steps) (counts .result) (counts .ensures) (c .before .before .before .before .before .before .if1 .left) in
-    let g = given-listed l i k (at .args .tracks) (at .args .room) (at .args .steps) (given .result) (given .ensures) (c .before .before .before .if2 .left) in
-    (counted l i k (at .args .tracks) (at .args .room) (at .args .steps) w (g .1), g .0, omega (arith, w .steps .1))
-
-returns-4 : tie.Need-returns-4
-returns-4 c =
     let at = c .before .before .before .before .before .before .before .before .before .before .before .before .before in
     let l = now (at .args .lengths) in
     let i = now (at .args .inbound) in
     let k = now (at .args .codes) in
     let counts = c .before .before .before .before .before .before .before .before .before .counts in
     let given = c .before .before .before .before .before .before .given in
+    let sound = c .before .before .sound in
+    check-sound l i k (at .args .tracks) (at .args .room) (at .args .steps) (counts .result) (counts .ensures) (c .before .before .before .before .before .before .before .if1 .left) (given .result) (given .ensures) (c .before .before .before .before .if2 .left) (sound .result) (sound .ensures) (c .if3 .taken)
+
+ordered-requires : tie.Need-ordered-requires
+ordered-requires c κs =
+    let at = c .before .before .before .before .before .before .before .before .before .before .before .before .before in
+    let l = now (at .args .lengths) in
+    let i = now (at .args .inbound) in
+    let k = now (at .args .codes) in
+    let counts = c .before .before .before .before .before .before .before .before .before .counts in
+    let given = c .before .before .before .before .before .before .given in
+    let w = counted-within l i k (at .args .tracks) (at .args .room) (at .args .steps) (counts .result) (counts .ensures) (c .before .before .before .before .before .before .before .if1 .left) in
+    let g = given-listed l i k (at .args .tracks) (at .args .room) (at .args .steps) (given .result) (given .ensures) (c .before .before .before .before .if2 .left) in
+    (counted l i k (at .args .tracks) (at .args .room) (at .args .steps) w (g .1), g .0, omega (arith, w .steps .1), c .before .before .before .fullest .ensures)
+
+returns-4 : tie.Need-returns-4
+returns-4 c =
+    let at = c .before .before .before .before .before .before .before .before .before .before .before .before .before .before in
+    let l = now (at .args .lengths) in
+    let i = now (at .args .inbound) in
+    let k = now (at .args .codes) in
+    let counts = c .before .before .before .before .before .before .before .before .before .before .counts in
+    let given = c .before .before .before .before .before .before .before .given in
     let sound = c .before .before .before .sound in
-    check-ordered l i k (at .args .tracks) (at .args .room) (at .args .steps) (counts .result) (counts .ensures) (c .before .before .before .before .before .before .before .if1 .left) (given .result) (given .ensures) (c .before .before .before .before .if2 .left) (sound .result) (sound .ensures) (c .before .if3 .left) (c .ordered .result) (c .ordered .ensures)
+    check-ordered l i k (at .args .tracks) (at .args .room) (at .args .steps) (counts .result) (counts .ensures) (c .before .before .before .before .before .before .before .before .if1 .left) (given .result) (given .ensures) (c .before .before .before .before .before .if2 .left) (sound .result) (sound .ensures) (c .before .if3 .left) (c .ordered .result) (c .ordered .ensures)
 
 pub check-spec : {M : Type 1} → statement M
 check-spec =
@@ -90,6 +102,7 @@ check-spec =
     returns
     given-requires
     returns-2
+    fullest-requires
     sound-requires
     returns-3
     ordered-requires

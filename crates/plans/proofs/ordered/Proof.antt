@@ -39,21 +39,19 @@ returns c =
 passes-requires : tie.Need-passes-requires
 passes-requires c κs = search needs
 
-fullest-requires : tie.Need-fullest-requires
-fullest-requires c κs = search needs
-
 answer-requires-2 : tie.Need-answer-requires-2
 answer-requires-2 c κs = search needs
 
 returns-2 : tie.Need-returns-2
 returns-2 c =
-    let args = c .before .before .before .before .before .before .before .before .args in
+    let at = c .before .before .before .before .before .before .before in
+    let args = at .args in
     let codes = now (args .codes) in
     let j = firstPair (now (args .lengths)) (now (args .inbound)) codes in
-    let found = c .before .before .before .before .first-pair .ensures in
+    let found = c .before .before .before .first-pair .ensures in
     let d = says 0 (length codes + setBelow (args .steps) codes) (mostNamed codes (args .steps)) in
     c .answer2 .ensures ∙
-    (ap₂ (λ (a b : ℕ). says 0 a b) (c .before .before .passes .ensures) (c .before .fullest .ensures) ∙
+    (ap₂ (λ (a b : ℕ). says 0 a b) (c .before .passes .ensures) (at .pre .3) ∙
     sym (ap (λ (b : Bool). verdict (test b (says 9 (suc j) 0) ∷ []) d) (le-leb (length codes) j (omega arith))))
 
 pub ordered-spec : {M : Type 1} → statement M
@@ -65,6 +63,5 @@ ordered-spec =
     answer-requires
     returns
     passes-requires
-    fullest-requires
     answer-requires-2
     returns-2)

@@ -53,42 +53,53 @@ returns-3 c =
     let k = now (a .codes) in
     replay-given l i k (a .tracks) (a .room) (a .steps) (a .stage) (now (a .on)) (now (a .at)) (c .before .before .before .before .before .before .before .before .counts .result) (c .before .before .before .before .before .before .before .before .counts .ensures) (c .before .before .before .before .before .before .if1 .left) (c .before .before .before .before .before .in-range .result) (c .before .before .before .before .before .in-range .ensures) (c .before .before .before .if2 .left) (c .before .before .placed .result) (c .before .before .placed .ensures) (c .if3 .taken)
 
-sound-requires : tie.Need-sound-requires
-sound-requires c κs =
+fullest-requires : tie.Need-fullest-requires
+fullest-requires c κs =
     let at = c .before .before .before .before .before .before .before .before .before .before .before .before .before .before in
     let a = at .args in
     let l = now (a .lengths) in
     let i = now (a .inbound) in
     let k = now (a .codes) in
-    let w = counted-within l i k (a .tracks) (a .room) (a .steps) (c .before .before .before .before .before .before .before .before .counts .result) (c .before .before .before .before .before .before .before .before .counts .ensures) (c .before .before .before .before .before .before .if1 .left) in
-    (w .tracks .0, omega (arith, w .steps .1))
+    let q = replay-placeable l i k (a .tracks) (a .room) (a .steps) (a .stage) (now (a .on)) (now (a .at)) (c .before .before .before .before .before .before .before .before .counts .result) (c .before .before .before .before .before .before .before .before .counts .ensures) (c .before .before .before .before .before .before .if1 .left) (c .before .before .before .before .before .in-range .result) (c .before .before .before .before .before .in-range .ensures) (c .before .before .before .if2 .left) (c .before .before .placed .result) (c .before .before .placed .ensures) (c .if3 .left) in
+    (omega (arith, q .steps), omega (arith, q .counted .each, q .counted .cars .1))
+
+sound-requires : tie.Need-sound-requires
+sound-requires c κs =
+    let at = c .before .before .before .before .before .before .before .before .before .before .before .before .before .before .before in
+    let a = at .args in
+    let l = now (a .lengths) in
+    let i = now (a .inbound) in
+    let k = now (a .codes) in
+    let w = counted-within l i k (a .tracks) (a .room) (a .steps) (c .before .before .before .before .before .before .before .before .before .counts .result) (c .before .before .before .before .before .before .before .before .before .counts .ensures) (c .before .before .before .before .before .before .before .if1 .left) in
+    let q = replay-placeable l i k (a .tracks) (a .room) (a .steps) (a .stage) (now (a .on)) (now (a .at)) (c .before .before .before .before .before .before .before .before .before .counts .result) (c .before .before .before .before .before .before .before .before .before .counts .ensures) (c .before .before .before .before .before .before .before .if1 .left) (c .before .before .before .before .before .before .in-range .result) (c .before .before .before .before .before .before .in-range .ensures) (c .before .before .before .before .if2 .left) (c .before .before .before .placed .result) (c .before .before .before .placed .ensures) (c .before .if3 .left) in
+    (w .tracks .0, omega (arith, w .steps .1), omega (arith, q .counted .each, q .counted .cars .1), c .fullest .ensures)
 
 returns-4 : tie.Need-returns-4
 returns-4 c =
-    let at = c .before .before .before .before .before .before .before .before .before .before .before .before .before .before .before .before .before in
+    let at = c .before .before .before .before .before .before .before .before .before .before .before .before .before .before .before .before .before .before in
     let a = at .args in
     let l = now (a .lengths) in
     let i = now (a .inbound) in
     let k = now (a .codes) in
-    replay-sound l i k (a .tracks) (a .room) (a .steps) (a .stage) (now (a .on)) (now (a .at)) (c .before .before .before .before .before .before .before .before .before .before .before .counts .result) (c .before .before .before .before .before .before .before .before .before .before .before .counts .ensures) (c .before .before .before .before .before .before .before .before .before .if1 .left) (c .before .before .before .before .before .before .before .before .in-range .result) (c .before .before .before .before .before .before .before .before .in-range .ensures) (c .before .before .before .before .before .before .if2 .left) (c .before .before .before .before .before .placed .result) (c .before .before .before .before .before .placed .ensures) (c .before .before .before .if3 .left) (c .before .before .sound .result) (c .before .before .sound .ensures) (c .if4 .taken)
+    replay-sound l i k (a .tracks) (a .room) (a .steps) (a .stage) (now (a .on)) (now (a .at)) (c .before .before .before .before .before .before .before .before .before .before .before .before .counts .result) (c .before .before .before .before .before .before .before .before .before .before .before .before .counts .ensures) (c .before .before .before .before .before .before .before .before .before .before .if1 .left) (c .before .before .before .before .before .before .before .before .before .in-range .result) (c .before .before .before .before .before .before .before .before .before .in-range .ensures) (c .before .before .before .before .before .before .before .if2 .left) (c .before .before .before .before .before .before .placed .result) (c .before .before .before .before .before .before .placed .ensures) (c .before .before .before .before .if3 .left) (c .before .before .sound .result) (c .before .before .sound .ensures) (c .if4 .taken)
 
 stand-requires : tie.Need-stand-requires
 stand-requires c κs =
-    let at = c .before .before .before .before .before .before .before .before .before .before .before .before .before .before .before .before .before .before .before in
+    let at = c .before .before .before .before .before .before .before .before .before .before .before .before .before .before .before .before .before .before .before .before in
     let a = at .args in
     let l = now (a .lengths) in
     let i = now (a .inbound) in
     let k = now (a .codes) in
-    replay-placeable l i k (a .tracks) (a .room) (a .steps) (a .stage) (now (a .on)) (now (a .at)) (c .before .before .before .before .before .before .before .before .before .before .before .before .before .counts .result) (c .before .before .before .before .before .before .before .before .before .before .before .before .before .counts .ensures) (c .before .before .before .before .before .before .before .before .before .before .before .if1 .left) (c .before .before .before .before .before .before .before .before .before .before .in-range .result) (c .before .before .before .before .before .before .before .before .before .before .in-range .ensures) (c .before .before .before .before .before .before .before .before .if2 .left) (c .before .before .before .before .before .before .before .placed .result) (c .before .before .before .before .before .before .before .placed .ensures) (c .before .before .before .before .before .if3 .left)
+    replay-placeable l i k (a .tracks) (a .room) (a .steps) (a .stage) (now (a .on)) (now (a .at)) (c .before .before .before .before .before .before .before .before .before .before .before .before .before .before .counts .result) (c .before .before .before .before .before .before .before .before .before .before .before .before .before .before .counts .ensures) (c .before .before .before .before .before .before .before .before .before .before .before .before .if1 .left) (c .before .before .before .before .before .before .before .before .before .before .before .in-range .result) (c .before .before .before .before .before .before .before .before .before .before .before .in-range .ensures) (c .before .before .before .before .before .before .before .before .before .if2 .left) (c .before .before .before .before .before .before .before .before .placed .result) (c .before .before .before .before .before .before .before .before .placed .ensures) (c .before .before .before .before .before .before .if3 .left)
 
 passes-requires : tie.Need-passes-requires
 passes-requires c κs =
-    let at = c .before .before .before .before .before .before .before .before .before .before .before .before .before .before .before .before .before .before .before .before .before .before .before .before in
+    let at = c .before .before .before .before .before .before .before .before .before .before .before .before .before .before .before .before .before .before .before .before .before .before .before .before .before in
     let a = at .args in
     let l = now (a .lengths) in
     let i = now (a .inbound) in
     let k = now (a .codes) in
-    let q = replay-placeable l i k (a .tracks) (a .room) (a .steps) (a .stage) (now (a .on)) (now (a .at)) (c .before .before .before .before .before .before .before .before .before .before .before .before .before .before .before .before .before .before .counts .result) (c .before .before .before .before .before .before .before .before .before .before .before .before .before .before .before .before .before .before .counts .ensures) (c .before .before .before .before .before .before .before .before .before .before .before .before .before .before .before .before .if1 .left) (c .before .before .before .before .before .before .before .before .before .before .before .before .before .before .before .in-range .result) (c .before .before .before .before .before .before .before .before .before .before .before .before .before .before .before .in-range .ensures) (c .before .before .before .before .before .before .before .before .before .before .before .before .before .if2 .left) (c .before .before .before .before .before .before .before .before .before .before .before .before .placed .result) (c .before .before .before .before .before .before .before .before .before .before .before .before .placed .ensures) (c .before .before .before .before .before .before .before .before .before .before .if3 .left) in
+    let q = replay-placeable l i k (a .tracks) (a .room) (a .steps) (a .stage) (now (a .on)) (now (a .at)) (c .before .before .before .before .before .before .before .before .before .before .before .before .before .before .before .before .before .before .before .counts .result) (c .before .before .before .before .before .before .before .before .before .before .before .before .before .before .before .before .before .before .before .counts .ensures) (c .before .before .before .before .before .before .before .before .before .before .before .before .before .before .before .before .before .if1 .left) (c .before .before .before .before .before .before .before .before .before .before .before .before .before .before .before .before .in-range .result) (c .before .before .before .before .before .before .before .before .before .before .before .before .before .before .before .before .in-range .ensures) (c .before .before .before .before .before .before .before .before .before .before .before .before .before .before .if2 .left) (c .before .before .before .before .before .before .before .before .before .before .before .before .before .placed .result) (c .before .before .before .before .before .before .before .before .before .before .before .before .before .placed .ensures) (c .before .before .before .before .before .before .before .before .before .before .before .if3 .left) in
     (omega (arith, q .upto, q .steps), omega (arith, q .counted .each, q .counted .cars .1))
 
 answer-requires : tie.Need-answer-requires
@@ -102,12 +113,12 @@ same-length-2 c = search needs
 
 returns-5 : tie.Need-returns-5
 returns-5 c =
-    let at = c .before .before .before .before .before .before .before .before .before .before .before .before .before .before .before .before .before .before .before .before .before .before .before .before .before .before in
+    let at = c .before .before .before .before .before .before .before .before .before .before .before .before .before .before .before .before .before .before .before .before .before .before .before .before .before .before .before in
     let a = at .args in
     let l = now (a .lengths) in
     let i = now (a .inbound) in
     let k = now (a .codes) in
-    replay-stood l i k (a .tracks) (a .room) (a .steps) (a .stage) (now (a .on)) (now (a .at)) (c .before .before .before .before .before .before .before .before .before .before .before .before .before .before .before .before .before .before .before .before .counts .result) (c .before .before .before .before .before .before .before .before .before .before .before .before .before .before .before .before .before .before .before .before .counts .ensures) (c .before .before .before .before .before .before .before .before .before .before .before .before .before .before .before .before .before .before .if1 .left) (c .before .before .before .before .before .before .before .before .before .before .before .before .before .before .before .before .before .in-range .result) (c .before .before .before .before .before .before .before .before .before .before .before .before .before .before .before .before .before .in-range .ensures) (c .before .before .before .before .before .before .before .before .before .before .before .before .before .before .before .if2 .left) (c .before .before .before .before .before .before .before .before .before .before .before .before .before .before .placed .result) (c .before .before .before .before .before .before .before .before .before .before .before .before .before .before .placed .ensures) (c .before .before .before .before .before .before .before .before .before .before .before .before .if3 .left) (c .before .before .before .before .before .before .before .before .before .before .before .sound .result) (c .before .before .before .before .before .before .before .before .before .before .before .sound .ensures) (c .before .before .before .before .before .before .before .before .before .if4 .left) (c .answer .result) (c .answer .ensures ∙ ap (λ (n : ℕ). says 0 n 0) (c .before .passes .ensures)) _ _ (c .before .before .before .before .before .before .stand .ensures)
+    replay-stood l i k (a .tracks) (a .room) (a .steps) (a .stage) (now (a .on)) (now (a .at)) (c .before .before .before .before .before .before .before .before .before .before .before .before .before .before .before .before .before .before .before .before .before .counts .result) (c .before .before .before .before .before .before .before .before .before .before .before .before .before .before .before .before .before .before .before .before .before .counts .ensures) (c .before .before .before .before .before .before .before .before .before .before .before .before .before .before .before .before .before .before .before .if1 .left) (c .before .before .before .before .before .before .before .before .before .before .before .before .before .before .before .before .before .before .in-range .result) (c .before .before .before .before .before .before .before .before .before .before .before .before .before .before .before .before .before .before .in-range .ensures) (c .before .before .before .before .before .before .before .before .before .before .before .before .before .before .before .before .if2 .left) (c .before .before .before .before .before .before .before .before .before .before .before .before .before .before .before .placed .result) (c .before .before .before .before .before .before .before .before .before .before .before .before .before .before .before .placed .ensures) (c .before .before .before .before .before .before .before .before .before .before .before .before .before .if3 .left) (c .before .before .before .before .before .before .before .before .before .before .before .sound .result) (c .before .before .before .before .before .before .before .before .before .before .before .sound .ensures) (c .before .before .before .before .before .before .before .before .before .if4 .left) (c .answer .result) (c .answer .ensures ∙ ap (λ (n : ℕ). says 0 n 0) (c .before .passes .ensures)) _ _ (c .before .before .before .before .before .before .stand .ensures)
 
 pub replay-spec : {M : Type 1} → statement M
 replay-spec =
@@ -119,6 +130,7 @@ replay-spec =
     returns-2
     placed-requires
     returns-3
+    fullest-requires
     sound-requires
     returns-4
     stand-requires
