@@ -1,15 +1,12 @@
--- Laws of a list that is written from the front, and of the numbers that pass a test written so.
+-- Laws of a list that is written from the front.
 use mathlib.Core.Path.{_≡_, refl, sym, ap, ap₂, _∙_, subst}
-use mathlib.Core.Bool.{Bool, true, false, cond}
 use mathlib.Core.List.{List, [], _∷_, _++_, map, append-assoc, append-nil, map-append}
-use Prim.Native.Nat.{ℕ, zero, suc, _+_, _≤_, _<_}
-use native.Mathlib.Nat.{add-zero, zero-add, add-suc, suc-add}
+use Prim.Native.Nat.{ℕ, suc, _+_, _-_, _≤_, _<_}
+use native.Mathlib.Nat.{add-zero}
 use native.Mathlib.Numerals.{add-one}
 use native.Mathlib.Omega.{arith}
-use lib.ListN.{length, getD, take, drop, set, List·getD-append, length-append, length-drop}
-use lib.Seq.{take-suc, drop-cons, set-at, getD-append-add, getD-drop}
-use Rattle.yard.specs.Words.{keep, upFrom}
-use Rattle.yard.proofs.Lists.{keep-append}
+use lib.ListN.{length, getD, take, drop, set, List·getD-append, length-append, take-append-drop}
+use lib.Seq.{take-suc, drop-cons, set-at, take-at, getD-append-add, getD-drop, drop-append-add, drop-drop, length-take-le}
 use Rattle.codes.specs.Front.{Front}
 
 pub front-none : (s : List ℕ) → Front [] s 0 s
@@ -25,9 +22,6 @@ front-next {items} {s} {t} {n} x m f =
           (set-at items (getD s n 0) (drop (suc n) s) x n (sym (f .number)) ∙ rw (add-one, append-assoc) refl);
     }
 
-pub front-length : {items s t : List ℕ} {n : ℕ} → n ≤ length s → Front items s n t → length t ≡ length s
-front-length {items} {s} {t} {n} m f = ap length (f .listed) ∙ omega (arith, f .number, length-append items (drop n s), length-drop n s)
-
 pub front-fits : {items s t : List ℕ} {n : ℕ} → Front items s n t → n ≤ length t
 front-fits {items} {s} {t} {n} f = omega (arith, f .number, ap length (f .listed), length-append items (drop n s))
 
@@ -41,25 +35,27 @@ front-behind {items} {s} {t} {n} f =
     ap₂ (λ (u : List ℕ) (k : ℕ). getD u k 0) (f .listed) end ∙
     (getD-append-add items (drop n s) 0 0 ∙ (getD-drop n s 0 0 ∙ ap (λ (k : ℕ). getD s k 0) (add-zero n)))
 
--- a list goes to the front item by item, each through g
-pub front-through : (g : ℕ → ℕ) (l : List ℕ) {s t : List ℕ} {i : ℕ} → i < length l → i < length s → Front (map g (take i l)) s i t → Front (map g (take (i + 1) l)) s (i + 1) (set t i (g (getD l i 0)))
-front-through g l {s} {t} {i} m room f =
+-- a list goes behind what stands at the front item by item, each through g
+pub front-through : (front : List ℕ) (g : ℕ → ℕ) (l : List ℕ) {s t : List ℕ} {i n : ℕ} → i < length l → n < length s → Front (front ++ map g (take i l)) s n t → Front (front ++ map g (take (i + 1) l)) s (n + 1) (set t n (g (getD l i 0)))
+front-through front g l {s} {t} {i} {n} m room f =
     let more : take (i + 1) l ≡ take i l ++ (getD l i 0 ∷ []) = rw add-one (take-suc l i 0 m) in
-    subst (λ (u : List ℕ). Front u s (i + 1) (set t i (g (getD l i 0)))) (sym (ap (map g) more ∙ map-append g (take i l) (getD l i 0 ∷ []))) (front-next (g (getD l i 0)) room f)
+    subst (λ (u : List ℕ). Front u s (n + 1) (set t n (g (getD l i 0))))
+    (sym (ap (λ (u : List ℕ). front ++ map g u) more ∙ (ap (λ (u : List ℕ). front ++ u) (map-append g (take i l) (getD l i 0 ∷ [])) ∙ sym (append-assoc front (map g (take i l)) (g (getD l i 0) ∷ [])))))
+    (front-next (g (getD l i 0)) room f)
 
--- ---- the numbers from 0 on that pass a test
+-- what stands at the front already, and what is made of it where more is written
+pub front-whole : (s : List ℕ) (n : ℕ) → n ≤ length s → Front (take n s ++ []) s (n + 0) s
+front-whole s n m = rw (append-nil, add-zero) (record { number = sym (length-take-le n s m); listed = sym (take-append-drop n s) })
 
-pub upFrom-last : (a n : ℕ) → upFrom a (suc n) ≡ upFrom a n ++ ((a + n) ∷ [])
-upFrom-last a zero = ap (λ (k : ℕ). k ∷ []) (sym (add-zero a))
-upFrom-last a (suc n) = ap (λ (l : List ℕ). a ∷ l) (upFrom-last (suc a) n ∙ ap (λ (k : ℕ). upFrom (suc a) n ++ (k ∷ [])) (suc-add a n ∙ sym (add-suc a n)))
+pub front-first : (front more : List ℕ) {s t : List ℕ} {n : ℕ} (k : ℕ) → k < length front → Front (front ++ more) s n t → getD t k 0 ≡ getD front k 0
+front-first front more k m f = front-item k (omega (arith, f .number, length-append front more)) f ∙ List·getD-append front more 0 k m
 
-module _ (p : ℕ → Bool) (n : ℕ) where
-  keep-next : keep p (upFrom 0 (n + 1)) ≡ keep p (upFrom 0 n) ++ cond (p n) (n ∷ []) []
-  keep-next = rw add-one (ap (keep p) (upFrom-last 0 n ∙ ap (λ (k : ℕ). upFrom 0 n ++ (k ∷ [])) (zero-add n)) ∙ keep-append p (upFrom 0 n) (n ∷ []))
+pub front-items : {items s t : List ℕ} {n : ℕ} → Front items s n t → take n t ≡ items
+front-items {items} {s} {t} {n} f = ap (take n) (f .listed) ∙ take-at items (drop n s) n (sym (f .number))
 
-  module _ {s t : List ℕ} {k : ℕ} (f : Front (keep p (upFrom 0 n)) s k t) where
-    pub front-kept : p n ≡ true → k < length s → Front (keep p (upFrom 0 (n + 1))) s (k + 1) (set t k n)
-    front-kept e m = rw (keep-next, e) (front-next n m f)
-
-    pub front-passed : p n ≡ false → Front (keep p (upFrom 0 (n + 1))) s k t
-    front-passed e = rw (keep-next, e, append-nil) f
+pub front-over : (make : List ℕ → List ℕ) {items s t u : List ℕ} {n r : ℕ} → n ≤ r → Front items s n t → Front (make (take n t)) t r u → Front (make items) s r u
+front-over make {items} {s} {t} {u} {n} {r} m f g =
+    let past : r ≡ length items + (r - n) = omega (arith, f .number) in
+    let again : n + (r - n) ≡ r = omega arith in
+    let rest : drop r t ≡ drop r s = ap₂ drop past (f .listed) ∙ (drop-append-add items (drop n s) (r - n) ∙ (drop-drop (r - n) n s ∙ ap (λ (k : ℕ). drop k s) again)) in
+    record { number = g .number ∙ ap (λ (l : List ℕ). length (make l)) (front-items f); listed = g .listed ∙ ap₂ (λ (l k : List ℕ). make l ++ k) (front-items f) rest }

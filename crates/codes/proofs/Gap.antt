@@ -119,6 +119,9 @@ gap-grow (suc d) h x m =
     (ap (λ (b : Bool). cond b (max (widestGap (h + d) x) (suc (h + d) - height (h + d) x)) (widestGap (h + d) x)) (bit-above (h + d) x (lt-of-lt-of-le m (pow-mono (le-add-right h d)))) ∙
     gap-grow d h x m)
 
+pub usable-grow : (W : ℕ) → 0 < W → (d h x : ℕ) → x < 2 ^ h → usable W (h + d) x ≡ usable W h x
+usable-grow W pos d h x m = usable-gap W (h + d) x pos ∙ (ap (λ (w : ℕ). leb w W) (gap-grow d h x m) ∙ sym (usable-gap W h x pos))
+
 pub usable-fewest : (W h H x : ℕ) → 0 < W → 0 < H → h ≤ H → x < 2 ^ h → usable W h x ≡ leb (fewestTracks H x) W
 usable-fewest W h H x pos some l m =
     let e : h + (H - h) ≡ H = omega arith in

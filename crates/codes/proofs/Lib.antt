@@ -2,3 +2,4 @@
 pub mod Gap
 pub mod Steps
 pub mod Front
+pub mod Doubling

@@ -1,10 +1,10 @@
 -- Laws of the fewest steps: F one step on, and the values that a ring of one slot for each track still holds.
 use mathlib.Core.Path.{_≡_, refl, sym, _∙_}
 use mathlib.Core.Logic.{_⊎_, inl, inr, ⊎-elim}
-use mathlib.Core.Bool.{Bool, cond}
+use mathlib.Core.Bool.{Bool}
 use mathlib.Core.List.{List}
-use Prim.Native.Nat.{ℕ, suc, _+_, _*_, _-_, _/_, _%_, _≤_, _<_}
-use native.Mathlib.Nat.{mod-lt, mod-eq-of-lt, div-add-mod', lt-of-mul-lt-mul-right, mul-le-mul-right, add-mod-right, eq-or-lt-of-le}
+use Prim.Native.Nat.{ℕ, zero, suc, _+_, _*_, _-_, _/_, _%_, _^_, _≤_, _<_}
+use native.Mathlib.Nat.{mod-lt, mod-eq-of-lt, div-add-mod', lt-of-mul-lt-mul-right, mul-le-mul-right, add-mod-right, eq-or-lt-of-le, two-pow-succ}
 use native.Mathlib.Omega.{arith}
 use lib.Dec.{leb}
 use lib.ListN.{length, getD, set, replicate, getD-replicate}
@@ -15,10 +15,7 @@ use Rattle.yard.specs.Codes.{F, fewestSteps}
 use Rattle.yard.proofs.Numbers.{le-or-lt}
 use Rattle.yard.proofs.First.{first-hits, first-ends}
 use Rattle.yard.proofs.Counting.{take-F, take-F-all}
-
--- the codes that a step more cannot double: those more than W steps short
-abbrev pub lost : ℕ → ℕ → ℕ
-lost W h = cond (leb W h) (F W (h - W)) 0
+use Rattle.codes.specs.Ring.{lost, Ring}
 
 pub F-next : (W h : ℕ) → F W (suc h) + lost W h ≡ 2 * F W h
 F-next W h = go (le-or-lt W h)
@@ -27,11 +24,11 @@ F-next W h = go (le-or-lt W h)
     go (inl far) = rw (le-leb W h far) (omega (arith, take-F W W h far))
     go (inr near) = rw (lt-leb W h near) (omega (arith, take-F-all W W h near))
 
--- ---- the ring
+pub F-le : (W h : ℕ) → F W h ≤ 2 ^ h
+F-le W zero = omega arith
+F-le W (suc h) = omega (arith, F-le W h, F-next W h, two-pow-succ h)
 
--- slot j mod W holds what step j loses, for the W steps from h on
-abbrev pub Ring : ℕ → List ℕ → ℕ → Type 0
-Ring W ring h = (j : ℕ) → h ≤ j → j < h + W → getD ring (j % W) 0 ≡ lost W j
+-- ---- the ring
 
 module _ (W : ℕ) (pos : 0 < W) where
   apart : (s l : ℕ) → s < l → l < s + W → l % W ≡ s % W → ⊥

@@ -1,13 +1,15 @@
 // Usable codes: the fewest tracks of a code, the fewest steps for a number of breaks, and the usable codes in rising order.
 ghost use mathlib.Core.Path.{_≡_};
-ghost use Prim.Native.Nat.{_≤_, _^_};
-ghost use lib.ListN.{length};
-ghost use Rattle.yard.specs.Codes.{fewestTracks, fewestSteps, usableCodes};
+ghost use mathlib.Core.List.{_++_, map};
+ghost use Prim.Native.Nat.{_+_, _≤_, _^_};
+ghost use lib.ListN.{length, take, drop};
+ghost use Rattle.yard.specs.Codes.{F, fewestTracks, fewestSteps, usableCodes};
 ghost use Rattle.codes.specs.Gap.{gaps};
 ghost use Rattle.codes.specs.Front.{Front};
+ghost use Rattle.codes.specs.Ring.{lost, Ring};
 ghost use Rattle.codes.specs.Wider.{OfEight, firstWider};
 
-// The most tracks for which the fewest steps are worked out.
+// The most tracks for which steps and codes are worked out.
 const TRACKS: usize = 16;
 
 // The fewest tracks on which a car with a code is never pulled early, by code.
@@ -306,36 +308,54 @@ pub fn first_wider(codes: &[u16], tracks: usize) -> usize
     first_above(&table, codes, tracks)
 }
 
+// Takes out of the ring how many codes this step loses, and puts in how many there are.
+fn lost(ring: &mut [usize], tracks: usize, step: usize, codes: usize) -> usize
+    requires { ⌜ (1 ≤ tracks) × (tracks ≤ length (now ring)) × (codes ≡ F tracks step) × Ring tracks (now ring) step ⌝ }
+    ensures { λ r. ⌜ (r ≡ lost tracks step) × Ring tracks (now (ring .exit)) (step + 1) ⌝ }
+{
+    let slot = step % tracks;
+    let out = ring[slot];
+    ring[slot] = codes;
+    out
+}
+
 // The fewest steps that give a usable code for each number of breaks up to this one.
 pub fn fewest_steps(tracks: usize, breaks: usize) -> usize
     requires { ⌜ (1 ≤ tracks) × (tracks ≤ 16) × (breaks ≤ 65536) ⌝ }
     ensures { λ r. ⌜ r ≡ fewestSteps tracks breaks ⌝ }
 {
-    let mut lost = [0usize; TRACKS];
+    let mut ring = [0usize; TRACKS];
     let mut codes: usize = 1;
     let mut steps: usize = 0;
     while codes <= breaks {
-        let slot = steps % tracks;
-        let more = 2 * codes - lost[slot];
-        lost[slot] = codes;
-        codes = more;
+        codes = 2 * codes - lost(&mut ring, tracks, steps, codes);
         steps += 1;
     }
     steps
 }
 
+// Writes the codes but the first ones once more behind them, with a bit added, and answers how many there are then.
+fn with_bit(bit: u16, but: usize, codes: usize, into: &mut [u16]) -> usize
+    requires { ⌜ (bit ≤ 256) × (but ≤ codes) × (codes + codes ≤ length (now into) + but) × OfEight (take codes (now into)) ⌝ }
+    ensures { λ r. ⌜ Front (take codes (now (into .entry)) ++ map (λ x. bit + x) (drop but (take codes (now (into .entry))))) (now (into .entry)) r (now (into .exit)) ⌝ }
+{
+    for k in 0..codes - but {
+        into[codes + k] = bit + into[but + k];
+    }
+    codes + (codes - but)
+}
+
 // Writes the usable codes of these steps to the front of a list, in rising order, and answers how many there are.
 pub fn usable_codes(tracks: usize, steps: usize, into: &mut [u16]) -> usize
-    requires { ⌜ (1 ≤ tracks) × (steps ≤ 8) × (2 ^ steps ≤ length (now into)) ⌝ }
+    requires { ⌜ (1 ≤ tracks) × (tracks ≤ 16) × (steps ≤ 8) × (2 ^ steps ≤ length (now into)) ⌝ }
     ensures { λ r. ⌜ Front (usableCodes tracks steps) (now (into .entry)) r (now (into .exit)) ⌝ }
 {
-    let mut found: usize = 0;
-    let end = intake::power(steps);
-    for code in 0..end {
-        if fewest_tracks(code as u8) <= tracks {
-            into[found] = code as u16;
-            found += 1;
-        }
+    let mut ring = [0usize; TRACKS];
+    let mut codes: usize = 1;
+    into[0] = 0;
+    for step in 0..steps {
+        let but = lost(&mut ring, tracks, step, codes);
+        codes = with_bit(intake::power(step) as u16, but, codes, into);
     }
-    found
+    codes
 }

@@ -1,17 +1,16 @@
--- Laws of the answers: tests in parts, the plan's own tests worked out from its codes, and the outcome of derive made of both.
+-- Laws of the answers: the plan's own tests worked out from its codes, and the outcome of derive made of them and of the tests before.
 use mathlib.Core.Path.{_≡_, refl, sym, ap, ap₂, _∙_}
 use mathlib.Core.Logic.{_⊎_, inl, inr}
-use mathlib.Core.Bool.{Bool, true, false, cond}
+use mathlib.Core.Bool.{true, false}
 use mathlib.Core.List.{List, [], _∷_, _++_}
 use Prim.Native.Nat.{ℕ, _+_, _≤_, _<_}
 use native.Mathlib.Nat.{le-refl}
 use native.Mathlib.Omega.{arith}
-use lib.Dec.{leb, ltb, eqb}
+use lib.Dec.{leb, ltb}
 use lib.ListN.{length, drop}
 use borrow.Author.Tests.{le-leb, lt-leb, leb-true}
 use Rattle.yard.specs.declared.Answer.{Answer}
 use Rattle.yard.specs.Limits.{limits}
-use Rattle.yard.specs.Words.{first}
 use Rattle.yard.specs.Night.{Night}
 use Rattle.yard.specs.Replay.{passes, pullSize, firstOverfull}
 use Rattle.yard.specs.Derived.{stepsNeeded, derivedCodes, derivedPlan}
@@ -20,7 +19,7 @@ use Rattle.yard.specs.Calls.{nightCounts, nightTests, deriveAnswer, Derives}
 use Rattle.yard.specs.Demands.{Listed}
 use Rattle.yard.proofs.Numbers.{le-or-lt}
 use Rattle.yard.proofs.First.{first-same}
-use Rattle.yard.proofs.Verdict.{Passed, verdict-append, verdict-passed, verdict-passes, verdict-refused, written-refused}
+use Rattle.yard.proofs.Verdict.{verdict-append, verdict-nested, verdict-passes, stops-all, goes-on-all, written-refused}
 use Rattle.yard.proofs.Tests.{count-passed, list-passed}
 use Rattle.yard.proofs.Formed.{lists-passed}
 use Rattle.yard.proofs.DerivedPlan.{derived-length, derived-sorts}
@@ -28,23 +27,6 @@ use Rattle.yard.proofs.PlanYard.{passes-codes, pullSize-codes}
 use Rattle.intake.proofs.Tests.{last-test}
 use Rattle.sorting.specs.Sums.{named, setBelow, above, firstAbove}
 use Rattle.derive.specs.Plans.{givenTests, Given, settled, Settles, planned, Planned}
-
--- ---- tests in parts
-
--- tests, and then the rest: their own answer, and where it is 0 the rest
-pub tests-then : (ts : List Answer) (done : Answer) → verdict ts done ≡ verdict (verdict ts (says 0 0 0) ∷ []) done
-tests-then [] done = refl
-tests-then (t ∷ ts) done = go (eqb (t .number) 0) refl (tests-then ts done)
-  where
-    go :
-        (b : Bool) → eqb (t .number) 0 ≡ b → verdict ts done ≡ verdict (verdict ts (says 0 0 0) ∷ []) done →
-        cond b (verdict ts done) t ≡ verdict (cond b (verdict ts (says 0 0 0)) t ∷ []) done
-    go true e later = later
-    go false e later = sym (ap (λ (b : Bool). cond b done t) e)
-
--- a refusal of the first tests is that of all
-pub first-refuses : (ts : List Answer) (done : Answer) → (verdict ts (says 0 0 0) .number ≡ 0 → ⊥) → verdict ts (says 0 0 0) ≡ verdict ts done
-first-refuses ts done h = sym (tests-then ts done ∙ verdict-refused (verdict ts (says 0 0 0)) [] done h)
 
 -- ---- the room, worked out from the codes
 
@@ -131,33 +113,25 @@ module _ (n : Night) (f : Listed (n .lengths) (n .inbound)) (pos : 0 < n .tracks
 -- ---- derive
 
 -- the tests 1 to 4: a count is refused, or else the lists and the buffer answer
-module _ (n : Night) (limit size : ℕ) {counted : Answer} (e : counted ≡ verdict (nightCounts limits n limit) (says 0 0 0)) where
+module _ (n : Night) (limit size : ℕ) {counted : Answer} (is : counted ≡ verdict (nightCounts limits n limit) (says 0 0 0)) where
   pub given-counts : (counted .number ≡ 0 → ⊥) → counted ≡ verdict (givenTests n limit size) (says 0 0 0)
-  given-counts h =
-      e ∙
-      (first-refuses (nightCounts limits n limit) (verdict (drop 5 (givenTests n limit size)) (says 0 0 0)) (λ z. h (ap (λ (a : Answer). a .number) e ∙ z)) ∙
-      sym (verdict-append (nightCounts limits n limit) (drop 5 (givenTests n limit size)) (says 0 0 0)))
+  given-counts h = stops-all (nightCounts limits n limit) (drop 5 (givenTests n limit size)) (says 0 0 0) counted is h
 
   pub given-lists :
       {r : Answer} → counted .number ≡ 0 → r ≡ verdict (verdict (nightTests n) (says 0 0 0) ∷ []) (listTest 3 (leb (length (n .inbound)) size)) →
       r ≡ verdict (givenTests n limit size) (says 0 0 0)
-  given-lists {r} z q =
+  given-lists {r} z e =
       let buffer : Answer = listTest 3 (leb (length (n .inbound)) size) in
-      let passed = verdict-passes (nightCounts limits n limit) (says 0 0 0) .0 (ap (λ (a : Answer). a .number) (sym e) ∙ z) .0 in
-      q ∙
-      sym
-      (verdict-append (nightCounts limits n limit) (drop 5 (givenTests n limit size)) (says 0 0 0) ∙
-      (verdict-passed (nightCounts limits n limit) (verdict (drop 5 (givenTests n limit size)) (says 0 0 0)) passed ∙
-      (verdict-append (nightTests n) (buffer ∷ []) (says 0 0 0) ∙
-      (ap (verdict (nightTests n)) (last-test (leb (length (n .inbound)) size) 4 3 0 refl) ∙ tests-then (nightTests n) buffer))))
+      goes-on-all (nightCounts limits n limit) (drop 5 (givenTests n limit size)) (says 0 0 0) counted is r z
+      (e ∙
+      (verdict-nested (nightTests n) buffer ∙
+      sym (verdict-append (nightTests n) (buffer ∷ []) (says 0 0 0) ∙ ap (verdict (nightTests n)) (last-test (leb (length (n .inbound)) size) 4 3 0 refl))))
 
-module _ (n : Night) (limit : ℕ) (before : List ℕ) where
-  all-passed : verdict (givenTests n limit (length before)) (says 0 0 0) .number ≡ 0 → Passed (givenTests n limit (length before))
-  all-passed e = verdict-passes (givenTests n limit (length before)) (says 0 0 0) .0 e .0
-
-  pub given-passed : verdict (givenTests n limit (length before)) (says 0 0 0) .number ≡ 0 → Given n limit (length before)
-  given-passed e =
-      let p = all-passed e in
+-- the answer of those tests: refused, it is that of derive; passed, the plan answers
+module _ (n : Night) (limit : ℕ) (before : List ℕ) {given : Answer} (is : given ≡ verdict (givenTests n limit (length before)) (says 0 0 0)) where
+  pub given-passed : given .number ≡ 0 → Given n limit (length before)
+  given-passed z =
+      let p = verdict-passes (givenTests n limit (length before)) (says 0 0 0) .0 (ap (λ (a : Answer). a .number) (sym is) ∙ z) .0 in
       record {
         cars = count-passed 1 1 (limits .cars) (length (n .inbound)) .0 (p .0) .1;
         trains = count-passed 2 1 (limits .trains) (length (n .lengths)) .0 (p .1 .0) .1;
@@ -167,18 +141,20 @@ module _ (n : Night) (limit : ℕ) (before : List ℕ) where
         buffer = leb-true (length (n .inbound)) (length before) (list-passed 3 (leb (length (n .inbound)) (length before)) .0 (p .1 .1 .1 .1 .1 .1 .1 .1 .0));
       }
 
-  in-parts : deriveAnswer limits n limit (length before) ≡ verdict (givenTests n limit (length before)) (planned n limit)
-  unfolding deriveAnswer
-  in-parts =
-      verdict-append (givenTests n limit (length before)) (limitTest (stepsNeeded n) limit ∷ roomTest (derivedPlan n) ∷ [])
-      (says 0 (stepsNeeded n) (passes (derivedPlan n) (stepsNeeded n)))
+  own-tests : List Answer
+  own-tests = limitTest (stepsNeeded n) limit ∷ roomTest (derivedPlan n) ∷ []
 
-  pub derive-refused : {r : Answer} → r ≡ verdict (givenTests n limit (length before)) (says 0 0 0) → (r .number ≡ 0 → ⊥) → Derives n limit before r before
-  derive-refused {r} e h =
-      let same : r ≡ deriveAnswer limits n limit (length before) = e ∙ (first-refuses (givenTests n limit (length before)) (planned n limit) (λ z. h (ap (λ (a : Answer). a .number) e ∙ z)) ∙ sym in-parts) in
+  done : Answer
+  done = says 0 (stepsNeeded n) (passes (derivedPlan n) (stepsNeeded n))
+
+  pub derive-refused : (given .number ≡ 0 → ⊥) → Derives n limit before given before
+  unfolding deriveAnswer own-tests done
+  derive-refused h =
+      let same : given ≡ deriveAnswer limits n limit (length before) = stops-all (givenTests n limit (length before)) own-tests done given is h in
       record { answer = same; codes = sym (written-refused (deriveAnswer limits n limit (length before)) (derivedCodes n) before (λ z. h (ap (λ (a : Answer). a .number) same ∙ z))) }
 
-  pub derive-planned : {r : Answer} {after : List ℕ} → verdict (givenTests n limit (length before)) (says 0 0 0) .number ≡ 0 → Planned n limit before r after → Derives n limit before r after
-  derive-planned {r} {after} e p =
-      let same : r ≡ deriveAnswer limits n limit (length before) = p .answer ∙ sym (in-parts ∙ verdict-passed (givenTests n limit (length before)) (planned n limit) (all-passed e)) in
+  pub derive-planned : {r : Answer} {after : List ℕ} → given .number ≡ 0 → Planned n limit before r after → Derives n limit before r after
+  unfolding deriveAnswer own-tests done
+  derive-planned {r} z p =
+      let same : r ≡ deriveAnswer limits n limit (length before) = goes-on-all (givenTests n limit (length before)) own-tests done given is r z (p .answer) in
       record { answer = same; codes = p .codes ∙ ap (λ (a : Answer). written a (derivedCodes n) before) same }

@@ -13,13 +13,21 @@ use Rattle.yard.specs.Demands.{Listed}
 use Rattle.yard.proofs.Least.{F-usable}
 use Rattle.yard.proofs.DerivedPlan.{map-item, length-by-car, fewest-enough, before-most, derived-length}
 use Rattle.codes.specs.Front.{Front}
-use Rattle.codes.proofs.Front.{front-item}
+use Rattle.codes.proofs.Front.{front-item, front-fits, front-behind}
 use Rattle.derive.specs.Numbers.{Numbers}
 use Rattle.derive.specs.Plans.{Below}
 
-pub table-code : (W h : ℕ) → 0 < W → {s t : List ℕ} {n : ℕ} → Front (usableCodes W h) s n t → (q : ℕ) → q < F W h → getD t q 0 ≡ codeNumber W h q
-unfolding codeNumber
-table-code W h pos f q m = front-item q (omega (arith, f .number, F-usable W h pos)) f
+-- the number at hand is as it came, so the table has its code
+module _ (W h : ℕ) (pos : 0 < W) {s table numbers done now : List ℕ} {r i : ℕ} (codes : Front (usableCodes W h) s r table) (below : Below (F W h) numbers) (l : i < length numbers) (held : Front done numbers i now) where
+  coded-below : getD now i 0 < r
+  coded-below = omega (arith, below .item i l, front-behind held, codes .number, F-usable W h pos)
+
+  pub number-fits : getD now i 0 < length table
+  number-fits = omega (arith, coded-below, front-fits codes)
+
+  pub number-code : getD table (getD now i 0) 0 ≡ codeNumber W h (getD numbers i 0)
+  unfolding codeNumber
+  number-code = front-item (getD now i 0) coded-below codes ∙ ap (λ (q : ℕ). getD (usableCodes W h) q 0) (front-behind held)
 
 module _ (n : Night) (f : Listed (n .lengths) (n .inbound)) (pos : 0 < n .tracks) where
   pub steps-needed : {m steps : ℕ} {list : List ℕ} → Numbers (n .lengths) (n .inbound) m list → steps ≡ fewestSteps (n .tracks) m → steps ≡ stepsNeeded n

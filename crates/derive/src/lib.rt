@@ -1,33 +1,22 @@
 // From a night and a step limit to the one derived plan: its steps, its passes, and the code of each car.
 use yard::Answer;
 ghost use mathlib.Core.Path.{_≡_};
-ghost use mathlib.Core.List.{map, _++_};
+ghost use mathlib.Core.List.{map};
 ghost use Prim.Native.Nat.{_+_, _≤_, _<_};
-ghost use lib.ListN.{length, drop};
+ghost use lib.ListN.{length};
 ghost use Rattle.yard.specs.Words.{tally};
 ghost use Rattle.yard.specs.Codes.{F, codeNumber};
 ghost use Rattle.yard.specs.Limits.{limits};
 ghost use Rattle.yard.specs.Answers.{says, verdict};
 ghost use Rattle.yard.specs.Calls.{Derives};
-ghost use Rattle.yard.specs.Demands.{EachOnce, Listed};
-ghost use Rattle.derive.specs.Numbers.{turned, Places, Train, Numbers};
+ghost use Rattle.yard.specs.Demands.{Listed};
+ghost use Rattle.derive.specs.Numbers.{turned, Train, Numbers};
 ghost use Rattle.derive.specs.Plans.{nightOf, givenTests, Given, Below, Settles, Planned};
 
 // The most cars of a night, and the codes of the most steps.
 const CARS: usize = 512;
 
 const CODES: usize = 256;
-
-// Writes the place of each car in the inbound list, by car.
-fn places(inbound: &[u16], into: &mut [u16])
-    requires { ⌜ EachOnce (now inbound) × (length (now inbound) ≤ 65536) × (length (now inbound) ≤ length (now into)) ⌝ }
-    ensures { λ _. ⌜ Places (now (inbound .entry)) (now (into .exit)) ⌝ }
-{
-    for i in 0..inbound.len() {
-        let car = inbound[i] as usize;
-        into[car - 1] = i as u16;
-    }
-}
 
 // 1 where the car behind this one comes in before it, else 0.
 fn turned(places: &[u16], car: usize) -> usize
@@ -37,16 +26,16 @@ fn turned(places: &[u16], car: usize) -> usize
     if places[car] < places[car - 1] { 1 } else { 0 }
 }
 
-// Writes the breaks before each car of the train that has these cars behind the first ones, and answers the breaks in it.
-fn train(places: &[u16], before: usize, cars: usize, into: &mut [u16]) -> usize
-    requires { ⌜ (1 ≤ cars) × (cars ≤ 65536) × (before + cars ≤ length (now places)) × (before + cars ≤ length (now into)) ⌝ }
-    ensures { λ r. ⌜ Train (now (places .entry)) before cars (now (into .entry)) r (now (into .exit)) ⌝ }
+// Writes the breaks before each car of the train behind the first cars and up to an end, and answers the breaks in it.
+fn train(places: &[u16], before: usize, end: usize, into: &mut [u16]) -> usize
+    requires { ⌜ (before < end) × (end ≤ 65536) × (end ≤ length (now places)) × (end ≤ length (now into)) ⌝ }
+    ensures { λ r. ⌜ Train (now (places .entry)) before end (now (into .entry)) r (now (into .exit)) ⌝ }
 {
     into[before] = 0;
     let mut breaks: usize = 0;
-    for k in 1..cars {
-        breaks += turned(places, before + k);
-        into[before + k] = breaks as u16;
+    for car in before + 1..end {
+        breaks += turned(places, car);
+        into[car] = breaks as u16;
     }
     breaks
 }
@@ -57,23 +46,23 @@ fn numbers(lengths: &[u16], inbound: &[u16], into: &mut [u16]) -> usize
     ensures { λ r. ⌜ Numbers (now (lengths .entry)) (now (inbound .entry)) r (now (into .exit)) ⌝ }
 {
     let mut by_car = [0u16; CARS];
-    places(inbound, &mut by_car);
+    sorting::order::places(inbound, &mut by_car);
     let mut most: usize = 0;
     let mut before: usize = 0;
     for t in 0..lengths.len() {
-        let cars = lengths[t] as usize;
-        let breaks = train(&by_car, before, cars, into);
+        let end = before + lengths[t] as usize;
+        let breaks = train(&by_car, before, end, into);
         if most < breaks {
             most = breaks;
         }
-        before += cars;
+        before = end;
     }
     most
 }
 
 // Puts the usable code number q in the place of each number q.
 fn give(tracks: usize, steps: usize, numbers: &mut [u16])
-    requires { ⌜ (1 ≤ tracks) × (steps ≤ 8) × Below (F tracks steps) (now numbers) ⌝ }
+    requires { ⌜ (1 ≤ tracks) × (tracks ≤ 16) × (steps ≤ 8) × Below (F tracks steps) (now numbers) ⌝ }
     ensures { λ _. ⌜ now (numbers .exit) ≡ map (codeNumber tracks steps) (now (numbers .entry)) ⌝ }
 {
     let mut table = [0u16; CODES];
@@ -84,26 +73,17 @@ fn give(tracks: usize, steps: usize, numbers: &mut [u16])
     }
 }
 
-// Writes a list to the front of another.
-fn copy(from: &[u16], into: &mut [u16])
-    requires { ⌜ length (now from) ≤ length (now into) ⌝ }
-    ensures { λ _. ⌜ now (into .exit) ≡ now (from .entry) ++ drop (length (now (from .entry))) (now (into .entry)) ⌝ }
-{
-    for i in 0..from.len() {
-        into[i] = from[i];
-    }
-}
-
 // 6 for the codes of a plan, or else its steps and passes, with the codes written.
 fn settle(room: usize, steps: usize, derived: &[u16], codes: &mut [u16]) -> Answer
-    requires { ⌜ (steps ≤ 16) × (length (now derived) ≤ 4096) × (length (now derived) ≤ length (now codes)) ⌝ }
+    requires { ⌜ (steps ≤ 16) × (length (now derived) ≤ 4095) × (length (now derived) ≤ length (now codes)) ⌝ }
     ensures { λ r. ⌜ Settles room steps (now (derived .entry)) (now (codes .entry)) r (now (codes .exit)) ⌝ }
 {
-    let full = sorting::first_above(derived, steps, room);
+    let fullest = sorting::fullest(derived, steps);
+    let full = sorting::first_above(derived, steps, room, fullest);
     if full < steps {
         return intake::answer(6, full, sorting::pull(derived, full));
     }
-    copy(derived, codes);
+    intake::copy(derived, derived.len(), codes);
     intake::answer(0, steps, sorting::passes(derived, steps))
 }
 

@@ -1,75 +1,91 @@
--- The proof of `usable_codes`: the usable codes among those passed stand at the front.
-use mathlib.Core.Path.{_≡_, refl, sym, ap, _∙_}
-use mathlib.Core.Logic.{⊎-elim}
-use Prim.Native.Nat.{ℕ, _-_, _^_, _≤_, _<_}
+-- The proof of `usable_codes`: the usable codes of the steps passed stand at the front, and the ring holds what the next steps lose.
+use mathlib.Core.Path.{_≡_, refl, sym, _∙_}
+use Prim.Native.Nat.{suc, _-_, _^_, _≤_}
 use native.Mathlib.Omega.{arith}
-use lib.Dec.{leb}
-use lib.Pow.{pow-mono}
 use lib.ListN.{length, length-set}
+use lib.Pow.{pow-mono, pow-pos}
 use denote.Ref.{now}
-use borrow.Author.Tests.{le-leb, lt-leb}
-use Rattle.yard.specs.Words.{keep, upFrom}
-use Rattle.yard.specs.Codes.{usable, usableCodes}
+use Rattle.yard.specs.Codes.{usableCodes}
+use Rattle.yard.proofs.Counting.{F-above}
 use Rattle.codes.specs.Front.{Front}
-use Rattle.codes.proofs.Gap.{usable-fewest}
-use Rattle.codes.proofs.Front.{front-none, front-kept, front-passed}
+use Rattle.codes.specs.Ring.{Ring}
+use Rattle.codes.proofs.Steps.{F-next, F-le, ring-first}
+use Rattle.codes.proofs.Doubling.{written-none, written-all, written-number, written-small, written-next}
 use Rattle.codes.proofs.usable_codes.Statement.{statement}
 use Rattle.codes.proofs.usable_codes.Tie as tie
 
 abbrev Inv-loop : tie.InvT-loop
-Inv-loop tracks steps into₀ found₀ end code₀ into found code =
-    (code ≤ end) × (found ≤ code) × (length into ≡ length into₀) × Front (keep (usable tracks steps) (upFrom 0 code)) into₀ found into
+Inv-loop tracks steps into₀ ring₀ codes₀ step₀ into ring codes step =
+    (step ≤ steps) × (length into ≡ length into₀) × (length ring ≡ 16) × Ring tracks ring step × Front (usableCodes tracks step) into₀ codes into
 
 abbrev μ-loop : tie.MeasureT-loop
-μ-loop tracks steps into₀ found₀ end code₀ into found code = end - code
-
-loop-holds : tie.Need-loop-holds Inv-loop μ-loop
-loop-holds c = (omega arith, omega arith, refl, front-none (now (c .before .before .args .into)))
-
--- the code at hand is one of 8 steps
-below-256 : (c : tie.In-loop Inv-loop μ-loop) → c .before .loop .code < 256
-below-256 c =
-    let entry = c .before .before .before .before in
-    let most : 2 ^ entry .args .steps ≤ 2 ^ 8 = pow-mono (entry .pre .1) in
-    omega (arith, c .before .before .power .ensures, c .loop-test .taken)
-
-cast-fewest-tracks : tie.Need-cast-fewest-tracks Inv-loop μ-loop
-cast-fewest-tracks c = omega (arith, below-256 c)
-
-cast-into : tie.Need-cast-into Inv-loop μ-loop
-cast-into c = omega (arith, below-256 (c .before .before))
-
-mul-into : tie.Need-mul-into Inv-loop μ-loop
-mul-into c = omega (arith, below-256 (c .before .before))
+μ-loop tracks steps into₀ ring₀ codes₀ step₀ into ring codes step = steps - step
 
 slice-write-into : tie.Need-slice-write-into Inv-loop μ-loop
-slice-write-into c = omega (arith, c .before .before .before .before .power .ensures)
+slice-write-into c = omega (arith, pow-pos (c .before .args .steps))
+
+loop-holds : tie.Need-loop-holds Inv-loop μ-loop
+loop-holds c =
+    let s = c .before in
+    (omega arith, refl, refl, ring-first (s .args .tracks) (s .pre .0) 16 (s .pre .1), written-none (s .args .tracks) (s .pre .0) (now (s .args .into)) (omega (arith, pow-pos (s .args .steps))))
+
+slice-aggregate-lost : tie.Need-slice-aggregate-lost Inv-loop μ-loop
+slice-aggregate-lost c = sym (c .before .before .loop .inv .2)
+
+lost-requires : tie.Need-lost-requires Inv-loop μ-loop
+lost-requires c κs =
+    let at-loop = c .before .before in
+    let s = at-loop .before .before in
+    let held = at-loop .loop .inv in
+    (omega arith, omega arith, written-number (s .args .tracks) (at-loop .loop .step) (s .pre .0) (held .4), held .3)
+
+-- the bit of a step
+bit-small : (c : tie.After-power Inv-loop μ-loop) → c .power .result ≤ 2 ^ 8
+bit-small c =
+    let few : c .before .before .before .before .before .loop .step ≤ 8 = omega arith in
+    omega (arith, c .power .ensures, pow-mono few)
+
+cast-with-bit : tie.Need-cast-with-bit Inv-loop μ-loop
+cast-with-bit c = omega (arith, bit-small c)
+
+with-bit-requires : tie.Need-with-bit-requires Inv-loop μ-loop
+with-bit-requires c κs =
+    let at-loop = c .before .before .before .before .before .before in
+    let s = at-loop .before .before in
+    let h = at-loop .loop .step in
+    let W = s .args .tracks in
+    let f = at-loop .loop .inv .4 in
+    let number = written-number W h (s .pre .0) f in
+    let but = c .before .before .before .lost .ensures .0 in
+    let room : suc h ≤ s .args .steps = omega arith in
+    (omega (arith, bit-small (c .before)), omega (arith, number, but, F-next W h), omega (arith, number, but, F-next W h, F-le W (suc h), pow-mono room, length-set (now (s .args .into)) 0 0), written-small W h (s .pre .0) f (omega arith))
 
 loop-again : tie.Need-loop-again Inv-loop μ-loop
 loop-again c =
-    let at-loop = c .before .before .before in
-    let args = at-loop .before .before .before .args in
-    let code = at-loop .loop .code in
+    let called = c .before .before in
+    let at-loop = called .before .before .before .before .before .before .before in
+    let s = at-loop .before .before in
+    let h = at-loop .loop .step in
+    let W = s .args .tracks in
     let held = at-loop .loop .inv in
-    let power = at-loop .before .power .ensures in
-    let tells = usable-fewest (args .tracks) (args .steps) 8 code (omega arith) (omega arith) (omega arith) (omega (arith, power)) ∙ ap (λ (w : ℕ). leb w (args .tracks)) (sym (c .before .fewest-tracks .ensures)) in
-    ⊎-elim
-    (λ w. rw (w .1, w .2) (omega arith, omega arith, length-set (at-loop .loop .into) (at-loop .loop .found) code ∙ held .2, front-kept (usable (args .tracks) (args .steps)) code (held .3) (tells ∙ le-leb _ _ (w .0 .taken)) (omega (arith, power))))
-    (λ w. rw (w .1, w .2) (omega arith, omega arith, held .2, front-passed (usable (args .tracks) (args .steps)) code (held .3) (tells ∙ lt-leb _ _ (w .0 .left))))
-    (c .if1 .came)
+    let bits = called .before .before .power in
+    let went = called .before .before .before .before .lost in
+    (omega arith, called .with-bit .kept .1 .1 .1 .0 ∙ held .1, went .kept .0 ∙ held .2, went .ensures .1, written-next W h (s .pre .0) (held .4) (bits .ensures) (went .ensures .0) (called .with-bit .ensures))
 
 same-length : tie.Need-same-length Inv-loop μ-loop
-same-length c = c .before .loop .inv .2
+same-length c = c .before .loop .inv .1 ∙ length-set (now (c .before .before .before .args .into)) 0 0
 
 returns : tie.Need-returns Inv-loop μ-loop
-unfolding usableCodes
 returns c =
-    let end : c .before .loop .code ≡ 2 ^ c .before .before .before .before .args .steps = omega (arith, c .before .before .power .ensures) in
-    rw end at (c .before .loop .inv .3)
+    let s = c .before .before .before in
+    let W = s .args .tracks in
+    let h = c .before .loop .step in
+    let end : h ≡ s .args .steps = omega arith in
+    written-all (now (s .args .into)) (omega (arith, written-number W h (s .pre .0) (c .before .loop .inv .4), F-above W h (s .pre .0))) (rw end at (c .before .loop .inv .4))
 
 pub usable-codes-spec : {M : Type 1} → statement M
 usable-codes-spec =
     tie.close
     (tie.spec
-    Inv-loop μ-loop (λ c κs. omega arith) loop-holds cast-fewest-tracks (λ c κs. tt) cast-into mul-into slice-write-into
-    (λ c. omega arith) (λ c. omega arith) (λ c. omega arith) loop-again same-length returns)
+    Inv-loop μ-loop slice-write-into loop-holds slice-aggregate-lost lost-requires (λ c κs. omega arith) cast-with-bit with-bit-requires
+    (λ c. omega arith) (λ c. omega arith) loop-again same-length returns)

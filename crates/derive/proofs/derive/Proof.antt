@@ -1,8 +1,6 @@
 -- The proof of `derive`: the tests 1 to 4 refuse, or else the plan answers.
-use mathlib.Core.Path.{sym, ap, _∙_}
 use denote.Ref.{now}
 use borrow.Author.Needs.{needs}
-use Rattle.yard.specs.declared.Answer.{Answer}
 use Rattle.derive.specs.Plans.{nightOf}
 use Rattle.derive.proofs.Answered.{given-passed, derive-refused, derive-planned}
 use Rattle.derive.proofs.derive.Statement.{statement}
@@ -17,14 +15,14 @@ plan-requires : tie.Need-plan-requires
 plan-requires c κs =
     let at-test = c .before in
     let args = at-test .before .before .before .before .before .before .args in
-    given-passed (nightOf (now (args .lengths)) (now (args .inbound)) (args .tracks) (args .room)) (args .limit) (now (args .codes)) (ap (λ (a : Answer). a .number) (sym (at-test .before .before .given .ensures)) ∙ at-test .if1 .left)
+    given-passed (nightOf (now (args .lengths)) (now (args .inbound)) (args .tracks) (args .room)) (args .limit) (now (args .codes)) (at-test .before .before .given .ensures) (at-test .if1 .left)
 
 returns-2 : tie.Need-returns-2
 returns-2 c =
     let called = c .before .before in
     let at-test = called .before .before in
     let args = at-test .before .before .before .before .before .before .args in
-    derive-planned (nightOf (now (args .lengths)) (now (args .inbound)) (args .tracks) (args .room)) (args .limit) (now (args .codes)) (ap (λ (a : Answer). a .number) (sym (at-test .before .before .given .ensures)) ∙ at-test .if1 .left) (called .plan .ensures)
+    derive-planned (nightOf (now (args .lengths)) (now (args .inbound)) (args .tracks) (args .room)) (args .limit) (now (args .codes)) (at-test .before .before .given .ensures) (at-test .if1 .left) (called .plan .ensures)
 
 pub derive-spec : {M : Type 1} → statement M
 derive-spec = tie.close (tie.spec (λ c κs. search needs) returns plan-requires (λ c. search needs) returns-2)

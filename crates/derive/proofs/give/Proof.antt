@@ -1,17 +1,16 @@
 -- The proof of `give`: the numbers passed have become codes.
-use mathlib.Core.List.{append-nil, map}
-use mathlib.Core.Path.{_≡_, refl, ap, _∙_}
-use Prim.Native.Nat.{ℕ, _-_, _≤_, _<_}
+use mathlib.Core.List.{[], append-nil, map}
+use mathlib.Core.Path.{_≡_, refl, _∙_}
+use Prim.Native.Nat.{_-_, _≤_, _<_}
 use native.Mathlib.Omega.{arith}
 use lib.Seq.{drop-length, take-length}
 use lib.ListN.{length, getD, take, length-set}
 use lib.Pow.{pow-mono}
 use denote.Ref.{now}
-use Rattle.yard.specs.Codes.{F, codeNumber}
-use Rattle.yard.proofs.Least.{F-usable}
-use Rattle.codes.proofs.Front.{front-fits, front-none, front-behind, front-through}
+use Rattle.yard.specs.Codes.{codeNumber}
+use Rattle.codes.proofs.Front.{front-none, front-through}
 use Rattle.codes.specs.Front.{Front}
-use Rattle.derive.proofs.Coded.{table-code}
+use Rattle.derive.proofs.Coded.{number-fits, number-code}
 use Rattle.derive.proofs.give.Statement.{statement}
 use Rattle.derive.proofs.give.Tie as tie
 
@@ -22,54 +21,32 @@ Inv-loop tracks steps numbers₀ table i₀ i-end numbers i =
 abbrev μ-loop : tie.MeasureT-loop
 μ-loop tracks steps numbers₀ table i₀ i-end numbers i = length numbers₀ - i
 
-slice-aggregate-usable-codes : tie.Need-slice-aggregate-usable-codes Inv-loop μ-loop
-slice-aggregate-usable-codes c = refl
-
 usable-codes-requires : tie.Need-usable-codes-requires Inv-loop μ-loop
-usable-codes-requires c κs = (c .before .before .pre .0, c .before .before .pre .1, pow-mono (c .before .before .pre .1))
+usable-codes-requires c κs = (c .before .before .pre .0, c .before .before .pre .1, c .before .before .pre .2, pow-mono (c .before .before .pre .2))
 
 loop-holds : tie.Need-loop-holds Inv-loop μ-loop
 loop-holds c = (omega arith, refl, front-none (now (c .before .before .before .before .args .numbers)))
 
-abbrev entry : tie.After-slice-known2 Inv-loop μ-loop → tie.Start Inv-loop μ-loop
-entry c = c .before .before .before .before .before .before .before
+abbrev entry : tie.At-loop Inv-loop μ-loop → tie.Start Inv-loop μ-loop
+entry c = c .before .before .before .before .before
 
--- the number at hand is as it came, so it has a code
-abbrev number : tie.After-slice-known2 Inv-loop μ-loop → ℕ
-number c = getD (c .before .before .loop .numbers) (c .before .before .loop .i) 0
-
-number-known : (c : tie.After-slice-known2 Inv-loop μ-loop) → number c ≡ getD (now (entry c .args .numbers)) (c .before .before .loop .i) 0
-number-known c = front-behind (c .before .before .loop .inv .2)
-
-number-coded : (c : tie.After-slice-known2 Inv-loop μ-loop) → number c < F (entry c .args .tracks) (entry c .args .steps)
-number-coded c = omega (arith, number-known c, entry c .pre .2 .item (c .before .before .loop .i) (c .before .loop-test .taken))
-
--- and there are no more codes than the table has room for
-number-fits : (c : tie.After-slice-known2 Inv-loop μ-loop) → number c < 256
-number-fits c =
-    let called = c .before .before .before .before .usable-codes in
-    omega (arith, number-coded c, F-usable (entry c .args .tracks) (entry c .args .steps) (entry c .pre .0), called .ensures .number, front-fits (called .ensures), called .kept .1 .1 .0)
-
-cast-q : tie.Need-cast-q Inv-loop μ-loop
-cast-q c = omega (arith, number-fits c)
-
-mul-numbers : tie.Need-mul-numbers Inv-loop μ-loop
-mul-numbers c = omega (arith, number-fits c)
-
-array-read-numbers : tie.Need-array-read-numbers Inv-loop μ-loop
-array-read-numbers c = number-fits c
+-- the number at hand has its code in the table
+fits : (c : tie.In-loop Inv-loop μ-loop) → getD (c .before .loop .numbers) (c .before .loop .i) 0 < 256
+fits c =
+    let called = c .before .before .before .usable-codes in
+    let args = entry (c .before) .args in
+    omega (arith, number-fits (args .tracks) (args .steps) (entry (c .before) .pre .0) (called .ensures) (entry (c .before) .pre .3) (c .loop-test .taken) (c .before .loop .inv .2), called .kept .1 .1 .0)
 
 loop-again : tie.Need-loop-again Inv-loop μ-loop
 loop-again c =
     let at-loop = c .before .before in
-    let numbers = now (entry c .args .numbers) in
-    let i = at-loop .loop .i in
-    let W = entry c .args .tracks in
-    let h = entry c .args .steps in
     let called = at-loop .before .before .usable-codes in
+    let args = entry at-loop .args in
     let held = at-loop .loop .inv in
-    let code : getD (called .last .1 .1 .0) (number c) 0 ≡ codeNumber W h (getD numbers i 0) = table-code W h (entry c .pre .0) (called .ensures) (number c) (number-coded c) ∙ ap (codeNumber W h) (number-known c) in
-    (omega arith, length-set (at-loop .loop .numbers) i (getD (called .last .1 .1 .0) (number c) 0) ∙ held .1, rw code (front-through (codeNumber W h) numbers (omega arith) (omega arith) (held .2)))
+    let i = at-loop .loop .i in
+    let q = getD (at-loop .loop .numbers) i 0 in
+    let code = number-code (args .tracks) (args .steps) (entry at-loop .pre .0) (called .ensures) (entry at-loop .pre .3) (c .before .loop-test .taken) (held .2) in
+    (omega arith, length-set (at-loop .loop .numbers) i (getD (called .last .1 .1 .0) q 0) ∙ held .1, rw code (front-through [] (codeNumber (args .tracks) (args .steps)) (now (args .numbers)) (omega arith) (omega arith) (held .2)))
 
 same-length : tie.Need-same-length Inv-loop μ-loop
 same-length c = c .before .loop .inv .1
@@ -84,6 +61,6 @@ pub give-spec : {M : Type 1} → statement M
 give-spec =
     tie.close
     (tie.spec
-    Inv-loop μ-loop slice-aggregate-usable-codes usable-codes-requires loop-holds (λ c. omega arith) (λ c. omega arith) cast-q
-    mul-numbers array-read-numbers (λ c. omega arith) (λ c. omega arith) (λ c. omega arith) (λ c. omega arith) loop-again
+    Inv-loop μ-loop (λ c. refl) usable-codes-requires loop-holds (λ c. omega arith) (λ c. omega arith) (λ c. omega (arith, fits (c .before)))
+    (λ c. omega (arith, fits (c .before))) (λ c. fits (c .before)) (λ c. omega arith) (λ c. omega arith) (λ c. omega arith) (λ c. omega arith) loop-again
     same-length returns)

@@ -5,7 +5,7 @@ use Prim.Native.Nat.{ℕ, _+_, _-_, max, _≤_}
 use native.Mathlib.Omega.{arith}
 use lib.ListN.{length, getD}
 use denote.Ref.{now}
-use Rattle.derive.proofs.ByCar.{Counted, counted-none, counted-next, counted-all, train-within}
+use Rattle.derive.proofs.ByCar.{places-by-car, Counted, counted-none, counted-next, counted-all, train-within}
 use Rattle.derive.proofs.numbers.Statement.{statement}
 use Rattle.derive.proofs.numbers.Tie as tie
 
@@ -16,11 +16,8 @@ Inv-loop lengths inbound into₀ by-car most₀ before₀ t₀ t-end into most b
 abbrev μ-loop : tie.MeasureT-loop
 μ-loop lengths inbound into₀ by-car most₀ before₀ t₀ t-end into most before t = length lengths - t
 
-slice-aggregate-places : tie.Need-slice-aggregate-places Inv-loop μ-loop
-slice-aggregate-places c = refl
-
 places-requires : tie.Need-places-requires Inv-loop μ-loop
-places-requires c κs = (c .before .before .before .before .pre .0 .once, omega arith, omega arith)
+places-requires c κs = (omega arith, omega arith, c .before .before .before .before .pre .0 .once)
 
 loop-holds : tie.Need-loop-holds Inv-loop μ-loop
 loop-holds c =
@@ -28,8 +25,8 @@ loop-holds c =
     let listed = c .before .before .before .before .before .before .pre .0 in
     (omega arith, refl, counted-none (now (args .lengths)) (now (args .inbound)) listed (now (args .into)))
 
-cast-cars : tie.Need-cast-cars Inv-loop μ-loop
-cast-cars c = omega (arith, c .shared-slice-known3 .given (c .before .before .loop .t))
+cast-end : tie.Need-cast-end Inv-loop μ-loop
+cast-end c = omega (arith, c .shared-slice-known3 .given (c .before .before .loop .t))
 
 slice-aggregate-train : tie.Need-slice-aggregate-train Inv-loop μ-loop
 slice-aggregate-train c = sym (c .before .before .before .before .before .places .kept .1 .0)
@@ -50,10 +47,10 @@ train-requires : tie.Need-train-requires Inv-loop μ-loop
 train-requires c κs =
     let at-loop = c .before .before .before .before in
     let here = within (c .before .before .before) in
-    (here .0, omega (arith, here .1), omega (arith, here .1, at-loop .before .before .places .kept .1 .0), omega (arith, here .1))
+    (omega (arith, here .0), omega (arith, here .1), omega (arith, here .1, at-loop .before .before .places .kept .1 .0), omega (arith, here .1))
 
-add-before : tie.Need-add-before Inv-loop μ-loop
-add-before c = omega (arith, within (c .before .before .before .before .before .before .before))
+add-end : tie.Need-add-end Inv-loop μ-loop
+add-end c = omega (arith, within (c .before))
 
 loop-again : tie.Need-loop-again Inv-loop μ-loop
 loop-again c =
@@ -64,7 +61,7 @@ loop-again c =
     let larger : c .if1 .most ≡ max (at-loop .loop .most) (called .train .result) = ⊎-elim (λ w. omega arith) (λ w. omega arith) (c .if1 .came) in (
       omega arith,
       called .train .kept .1 .1 .1 .0 ∙ at-loop .loop .inv .1,
-      rw larger (counted-next (now (night .args .lengths)) (now (night .args .inbound)) (night .pre .0) (in-loop .loop-test .taken) (at-loop .loop .inv .2) (at-loop .before .before .places .ensures) (called .train .ensures)),
+      rw larger (counted-next (now (night .args .lengths)) (now (night .args .inbound)) (night .pre .0) (in-loop .loop-test .taken) (at-loop .loop .inv .2) (places-by-car (now (night .args .inbound)) _ (at-loop .before .before .places .ensures)) (called .train .ensures)),
     )
 
 same-length : tie.Need-same-length Inv-loop μ-loop
@@ -79,5 +76,5 @@ pub numbers-spec : {M : Type 1} → statement M
 numbers-spec =
     tie.close
     (tie.spec
-    Inv-loop μ-loop slice-aggregate-places places-requires loop-holds (λ c. omega arith) (λ c. omega arith) cast-cars
-    slice-aggregate-train train-requires add-before (λ c. omega arith) (λ c. omega arith) loop-again same-length returns)
+    Inv-loop μ-loop (λ c. refl) places-requires loop-holds (λ c. omega arith) (λ c. omega arith) cast-end add-end
+    slice-aggregate-train train-requires (λ c. omega arith) (λ c. omega arith) loop-again same-length returns)
