@@ -2,17 +2,17 @@
 use Prim.Native.Nat.{ℕ, zero, suc, _+_, _-_, _*_, _/_, _%_, _^_, _≤_, _<_}
 use mathlib.Core.Path.{_≡_, refl, sym, ap, _∙_}
 use mathlib.Core.List.{List, [], _∷_, _++_, append-assoc, append-nil}
-use native.Mathlib.Nat.{zero-add, suc-add, add-comm, add-sub-of-le, suc-inj, suc-ne-zero, mod-lt, lt-of-lt-of-le}
+use native.Mathlib.Nat.{zero-add, suc-add, add-comm, add-sub-of-le, suc-inj, suc-ne-zero, mod-lt}
 use native.Mathlib.Numerals.{add-one}
 use native.Mathlib.Omega.{arith}
-use lib.ListN.{length, getD, take, drop, set, replicate, length-append, length-replicate, take-append-drop, replicate-append-replicate}
-use lib.Arith.{digits-lt}
-use lib.Pow.{pow-pos, pow-mono, pow-add, shr-lt, shr-shr, high, split}
-use lib.Seq.{length-take-le, take-suc, take-suc-set, drop-set-lt, drop-drop}
+use lib.ListN.{length, getD, take, drop, replicate, length-append, length-replicate, take-append-drop, replicate-append-replicate}
+use lib.Pow.{pow-pos, shr-shr, split, high}
+use lib.Seq.{length-take-le, take-suc, take-at, drop-at, drop-drop, sets, sets-eq}
 use Rattle.yard.specs.Card.{toBits, packed, unpacked, wholeBytes, toBytes, bitsOf}
 use Rattle.yard.proofs.Bits.{Below, fits-run, length-toBits, toBits-low, unpacked-packed, unpacked-zeros, length-toBytes, length-packed, sum-replicate}
 use Rattle.card.specs.declared.Pen.{Pen}
 use Rattle.card.specs.Pens.{fresh, drawn, Draws}
+use Rattle.card.proofs.Words.{joined-low}
 
 -- A number of v + w bits is one of v bits before one of w.
 toBits-add : (v w x : ℕ) → toBits (v + w) x ≡ toBits v (x / 2 ^ w) ++ toBits w x
@@ -25,11 +25,17 @@ toBits-mod : (w x : ℕ) → toBits w (x % 2 ^ w) ≡ toBits w x
 toBits-mod w x = sym (toBits-low w (x / 2 ^ w) (x % 2 ^ w)) ∙ ap (toBits w) (split x w)
 
 -- pending bits, and the lowest bits of a number behind them
-toBits-joined : (v w p x : ℕ) → toBits (v + w) (p * 2 ^ w + x % 2 ^ w) ≡ toBits v p ++ toBits w x
-toBits-joined v w p x =
-    toBits-add v w (p * 2 ^ w + x % 2 ^ w)
-    ∙ ap (λ k. toBits v k ++ toBits w (p * 2 ^ w + x % 2 ^ w)) (high p w (mod-lt x (pow-pos w)))
-    ∙ ap (λ l. toBits v p ++ l) (toBits-low w p (x % 2 ^ w) ∙ toBits-mod w x)
+toBits-joined : (v w p x : ℕ) → v + w ≤ 64 → toBits (v + w) (p * 2 ^ w % 2 ^ 64 + x % 2 ^ w) ≡ toBits v p ++ toBits w x
+toBits-joined v w p x h =
+    let first = p % 2 ^ v in
+    let second = x % 2 ^ w in
+    let small : second < 2 ^ w = mod-lt x (pow-pos w) in
+    sym (toBits-mod (v + w) (p * 2 ^ w % 2 ^ 64 + second))
+    ∙ ap (toBits (v + w)) (joined-low v w p second h small)
+    ∙ toBits-add v w (first * 2 ^ w + second)
+    ∙ ap (λ k. toBits v k ++ toBits w (first * 2 ^ w + second)) (high first w small)
+    ∙ ap (λ l. l ++ toBits w (first * 2 ^ w + second)) (toBits-mod v p)
+    ∙ ap (λ l. toBits v p ++ l) (toBits-low w first second ∙ toBits-mod w x)
 
 -- Lists: bytes one behind the other, fields one behind the other.
 pub packed-append : (ws vs xs ys : List ℕ) → length xs ≡ length ws → packed (ws ++ vs) (xs ++ ys) ≡ packed ws xs ++ packed vs ys
@@ -59,64 +65,72 @@ bitsOf-append : (xs ys : List ℕ) → bitsOf (xs ++ ys) ≡ bitsOf xs ++ bitsOf
 bitsOf-append [] ys = refl
 bitsOf-append (x ∷ xs) ys = ap (λ l. toBits 8 x ++ l) (bitsOf-append xs ys) ∙ sym (append-assoc (toBits 8 x) (bitsOf xs) (bitsOf ys))
 
--- A pen that does nothing, that takes the bits of a number, and that writes a byte.
-pub draws-none : {k : ℕ} (bytes : List ℕ) (p : Pen) → p .count ≤ k → p .pending < 2 ^ p .count → Draws k [] bytes p bytes p
-draws-none bytes p few fits =
-    record { bits = sym (append-nil (drawn bytes p)); rest = refl; onward = omega arith; reached = omega arith; few = few; fits = fits }
+-- A pen that does nothing, and one that takes the bits of a number.
+pub draws-none : {k : ℕ} (bytes : List ℕ) (p : Pen) → p .count ≤ k → Draws k [] bytes p bytes p
+draws-none bytes p few =
+    record { bits = sym (append-nil (drawn bytes p)); rest = refl; onward = omega arith; reached = omega arith; few = few }
 
 pub draws-pending : (bytes : List ℕ) (p : Pen) (w x : ℕ)
-    → p .pending < 2 ^ p .count
-    → Draws (p .count + w) (toBits w x) bytes p bytes (record { at = p .at; count = p .count + w; pending = p .pending * 2 ^ w + x % 2 ^ w })
+    → p .count + w ≤ 64
+    → Draws (p .count + w) (toBits w x) bytes p bytes (record { at = p .at; count = p .count + w; pending = p .pending * 2 ^ w % 2 ^ 64 + x % 2 ^ w })
 unfolding drawn
-draws-pending bytes p w x fits =
+draws-pending bytes p w x room =
     record {
       bits =
-          ap (λ l. bitsOf (take (p .at) bytes) ++ l) (toBits-joined (p .count) w (p .pending) x)
+          ap (λ l. bitsOf (take (p .at) bytes) ++ l) (toBits-joined (p .count) w (p .pending) x room)
           ∙ sym (append-assoc (bitsOf (take (p .at) bytes)) (toBits (p .count) (p .pending)) (toBits w x));
       rest = refl;
       onward = omega arith;
       reached = omega (arith, length-toBits w x);
       few = omega arith;
-      fits = rw (pow-add 2 (p .count) w) (digits-lt fits (mod-lt x (pow-pos w)));
     }
 
--- seven bits pending and sixteen more are far below the largest number
-pub pending-below : (p : Pen) (w x : ℕ) → p .count ≤ 7 → w ≤ 16 → p .pending < 2 ^ p .count → p .pending * 2 ^ w + x % 2 ^ w < 8388608
-pending-below p w x few h fits =
-    let within : p .count + w ≤ 23 = omega arith in
-    lt-of-lt-of-le (draws-pending [] p w x fits .fits) (pow-mono within)
+-- the n bytes of a number, the highest first, and their bits
+abbrev pub bytesOf : ℕ → ℕ → List ℕ
+bytesOf zero x = []
+bytesOf (suc n) x = x / 2 ^ (n * 8) % 256 ∷ bytesOf n x
 
-pub draws-byte : (bytes : List ℕ) (p : Pen) → 8 ≤ p .count → p .at < length bytes
-    → Draws (7 + (p .count - 15)) [] bytes p (set bytes (p .at) (p .pending / 2 ^ (p .count - 8))) (record { at = p .at + 1; count = p .count - 8; pending = p .pending % 2 ^ (p .count - 8) })
+length-bytesOf : (n x : ℕ) → length (bytesOf n x) ≡ n
+length-bytesOf zero x = refl
+length-bytesOf (suc n) x = ap suc (length-bytesOf n x)
+
+bitsOf-bytesOf : (n x : ℕ) → bitsOf (bytesOf n x) ≡ toBits (n * 8) x
+bitsOf-bytesOf zero x = refl
+bitsOf-bytesOf (suc n) x =
+    let eight : 8 + n * 8 ≡ suc n * 8 = omega arith in
+    ap (λ l. l ++ bitsOf (bytesOf n x)) (toBits-mod 8 (x / 2 ^ (n * 8)))
+    ∙ ap (λ l. toBits 8 (x / 2 ^ (n * 8)) ++ l) (bitsOf-bytesOf n x)
+    ∙ sym (toBits-add 8 (n * 8) x)
+    ∙ ap (λ k. toBits k x) eight
+
+-- A pen that writes the first n bytes of the pending bits.
+pub draws-bytes : (n : ℕ) (bytes : List ℕ) (p : Pen) → n * 8 ≤ p .count → p .at + n ≤ length bytes
+    → let left = p .count - n * 8 in
+    Draws left [] bytes p (sets bytes (p .at) (bytesOf n (p .pending / 2 ^ left))) (record { at = p .at + n; count = left; pending = p .pending })
 unfolding drawn
-draws-byte bytes p full room =
-    let left = p .count - 8 in
-    let b = p .pending / 2 ^ left in
-    let eight : 8 + left ≡ p .count = omega arith in
-    let front = bitsOf (take (p .at) bytes) in
-    let written : bitsOf (take (p .at + 1) (set bytes (p .at) b)) ≡ front ++ toBits 8 b =
-    ap (λ k. bitsOf (take k (set bytes (p .at) b))) (add-one (p .at))
-    ∙ ap bitsOf (take-suc-set bytes (p .at) b room)
-    ∙ bitsOf-append (take (p .at) bytes) (b ∷ []) in
+draws-bytes n bytes p full room =
+    let left = p .count - n * 8 in
+    let x = p .pending in
+    let new = bytesOf n (x / 2 ^ left) in
+    let long : length new ≡ n = length-bytesOf n (x / 2 ^ left) in
+    let front = take (p .at) bytes in
+    let after : sets bytes (p .at) new ≡ front ++ new ++ drop (p .at + n) bytes =
+    sets-eq new bytes (p .at) (omega arith) ∙ ap (λ k. front ++ new ++ drop (p .at + k) bytes) long in
+    let seam : length (front ++ new) ≡ p .at + n = length-append front new ∙ omega (arith, length-take-le (p .at) bytes (omega arith)) in
+    let all : n * 8 + left ≡ p .count = omega arith in
     record {
       bits =
-          ap (λ l. l ++ toBits left (p .pending % 2 ^ left)) written
-          ∙ append-assoc front (toBits 8 b) (toBits left (p .pending % 2 ^ left))
-          ∙ ap (λ l. front ++ (toBits 8 b ++ l)) (toBits-mod left (p .pending))
-          ∙ ap (λ l. front ++ l) (sym (toBits-add 8 left (p .pending)) ∙ ap (λ k. toBits k (p .pending)) eight)
-          ∙ sym (append-nil (front ++ toBits (p .count) (p .pending)));
-      rest = drop-set-lt (p .at + 1) bytes (p .at) b (omega arith);
+          ap (λ l. bitsOf l ++ toBits left x) (ap (take (p .at + n)) after ∙ take-at (front ++ new) (drop (p .at + n) bytes) (p .at + n) seam)
+          ∙ ap (λ l. l ++ toBits left x) (bitsOf-append front new)
+          ∙ append-assoc (bitsOf front) (bitsOf new) (toBits left x)
+          ∙ ap (λ l. bitsOf front ++ (l ++ toBits left x)) (bitsOf-bytesOf n (x / 2 ^ left))
+          ∙ ap (λ l. bitsOf front ++ l) (sym (toBits-add (n * 8) left x) ∙ ap (λ k. toBits k x) all)
+          ∙ sym (append-nil (bitsOf front ++ toBits (p .count) x));
+      rest = ap (drop (p .at + n)) after ∙ drop-at (front ++ new) (drop (p .at + n) bytes) (p .at + n) seam;
       onward = omega arith;
       reached = omega arith;
       few = omega arith;
-      fits = mod-lt (p .pending) (pow-pos left);
     }
-
--- the byte is a byte
-pub byte-below : (p : Pen) → 8 ≤ p .count → p .pending < 2 ^ p .count → p .pending / 2 ^ (p .count - 8) < 256
-byte-below p full fits =
-    let eight : 8 + (p .count - 8) ≡ p .count = omega arith in
-    shr-lt 8 (p .count - 8) (rw eight fits)
 
 -- One drawing behind another is one drawing.
 pub draws-then : {j k : ℕ} {a b x : List ℕ} {p : Pen} {y : List ℕ} {q : Pen} {z : List ℕ} {r : Pen}
@@ -133,12 +147,11 @@ draws-then {a = a} {b = b} {x = x} {p = p} {y = y} {q = q} {z = z} {r = r} first
       onward = omega arith;
       reached = omega (arith, length-append a b);
       few = second .few;
-      fits = second .fits;
     }
 
 pub draws-few : {k l : ℕ} {a x : List ℕ} {p : Pen} {y : List ℕ} {q : Pen} → Draws k a x p y q → q .count ≤ l → Draws l a x p y q
 draws-few d few =
-    record { bits = d .bits; rest = d .rest; onward = d .onward; reached = d .reached; few = few; fits = d .fits }
+    record { bits = d .bits; rest = d .rest; onward = d .onward; reached = d .reached; few = few }
 
 -- Seven zero bits at last: the bytes written are those of the bits, and no other is touched.
 pub draws-whole : (bits before after : List ℕ) (q : Pen)

@@ -1,15 +1,15 @@
 -- Laws of bit places: a number is read from the bits at any place by the bytes that hold them, whatever its width.
-use Prim.Native.Nat.{ℕ, zero, suc, _+_, _-_, _*_, _/_, _%_, _^_, _≤_, _<_}
+use Prim.Native.Nat.{ℕ, zero, suc, _+_, _-_, _*_, _^_, _<_}
 use mathlib.Core.Path.{_≡_, refl, sym, ap, _∙_}
 use mathlib.Core.Bool.{Bool, true, false, _&&_}
 use mathlib.Core.List.{List, [], _∷_, _++_}
-use native.Mathlib.Nat.{zero-mul, zero-add, add-zero, suc-add, suc-mul, add-mul, mul-assoc, add-assoc, lt-of-lt-of-le, suc-ne-zero}
+use native.Mathlib.Nat.{zero-mul, zero-add, add-zero, suc-add, suc-mul, add-mul, mul-assoc, add-assoc, suc-ne-zero}
 use native.Mathlib.Numerals.{one-add, add-one}
 use native.Mathlib.Omega.{arith}
 use lib.Dec.{eqb}
-use lib.ListN.{length, getD, drop, set, replicate, length-drop, length-replicate, replicate-append-replicate}
-use lib.Pow.{pow-pos, pow-mono, pow-add, high, low, field}
-use lib.Seq.{drop-drop, drop-nil, drop-cons, drop-append-add, set-at, getD-drop, append-snoc}
+use lib.ListN.{length, getD, take, drop, set, replicate, length-drop, length-replicate, replicate-append-replicate}
+use lib.Pow.{pow-pos, pow-add}
+use lib.Seq.{drop-drop, drop-nil, drop-cons, drop-append-add, set-at, take-at, getD-drop, append-snoc}
 use borrow.Author.Tests.{eq-eqb, ne-eqb}
 use Rattle.yard.specs.Words.{every}
 use Rattle.yard.specs.Night.{sum}
@@ -36,16 +36,16 @@ fromBits-add (suc v) w bits =
     ∙ ap (λ l. (b * 2 ^ v + fromBits v later) * 2 ^ w + fromBits w l) behind
     ∙ ap (λ k. k * 2 ^ w + fromBits w (drop (suc v) bits)) (sym (fromBits-step v bits))
 
--- so w bits, with v before them and u behind, are found by one division
-pub middle-bits : (v w u : ℕ) (bits : List ℕ) → Below 2 bits → fromBits (v + (w + u)) bits / 2 ^ u % 2 ^ w ≡ fromBits w (drop v bits)
-middle-bits v w u bits b =
-    let later = below-drop v bits b in
-    let last = below-drop w (drop v bits) later in
-    sym (field (fromBits (v + (w + u)) bits) w u)
-    ∙ ap (λ k. k % 2 ^ (w + u) / 2 ^ u) (fromBits-add v (w + u) bits)
-    ∙ ap (λ k. k / 2 ^ u) (low (fromBits v bits) (w + u) (fromBits-below (w + u) (drop v bits) later))
-    ∙ ap (λ k. k / 2 ^ u) (fromBits-add w u (drop v bits))
-    ∙ high (fromBits w (drop v bits)) u (fromBits-below u (drop w (drop v bits)) last)
+-- so the field at a place is one of v bits before one of w, and a number of its width
+pub field-add : (bytes : List ℕ) (at v w : ℕ) → fieldAt bytes at (v + w) ≡ fieldAt bytes at v * 2 ^ w + fieldAt bytes (at + v) w
+unfolding fieldAt
+field-add bytes at v w =
+    let bits = drop at (bitsOf bytes) in
+    fromBits-add v w bits ∙ ap (λ l. fromBits v bits * 2 ^ w + fromBits w l) (drop-drop v at (bitsOf bytes))
+
+pub field-below : (bytes : List ℕ) (at w : ℕ) → fieldAt bytes at w < 2 ^ w
+unfolding fieldAt
+field-below bytes at w = fromBits-below w (drop at (bitsOf bytes)) (below-drop at (bitsOf bytes) (bitsOf-below bytes))
 
 -- Bytes: the bits from a byte on are those of the bytes from there on.
 pub bitsOf-drop : (i : ℕ) (bytes : List ℕ) → drop (i * 8) (bitsOf bytes) ≡ bitsOf (drop i bytes)
@@ -66,35 +66,26 @@ byte-at bytes small i =
     ∙ getD-drop i bytes 0 0
     ∙ ap (λ k. getD bytes k 0) (add-zero i)
 
--- three bytes as one number
-pub three-bytes : (bytes : List ℕ) → Below 256 bytes → (i : ℕ)
-    → fieldAt bytes (i * 8) 24 ≡ getD bytes i 0 * 65536 + getD bytes (i + 1) 0 * 256 + getD bytes (i + 2) 0
+-- a byte before w bits more
+byte-then : (bytes : List ℕ) → Below 256 bytes → (i j w : ℕ)
+    → j ≡ i + 1
+    → fieldAt bytes (i * 8) (8 + w) ≡ getD bytes i 0 * 2 ^ w + fieldAt bytes (j * 8) w
 unfolding fieldAt
-three-bytes bytes small i =
-    let bits = bitsOf bytes in
-    let next : (k : ℕ) → drop 8 (drop (k * 8) bits) ≡ drop ((k + 1) * 8) bits =
-    λ k. let e : k * 8 + 8 ≡ (k + 1) * 8 = omega arith in drop-drop 8 (k * 8) bits ∙ ap (λ n. drop n bits) e in
-    let two : i + 1 + 1 ≡ i + 2 = omega arith in
-    let second = ap (fromBits 8) (next i) ∙ byte-at bytes small (i + 1) in
-    let third =
-    ap (λ l. fromBits 8 (drop 8 l)) (next i) ∙ ap (fromBits 8) (next (i + 1)) ∙ byte-at bytes small (i + 1 + 1) ∙ ap (λ k. getD bytes k 0) two in
-    omega (arith, fromBits-add 8 16 (drop (i * 8) bits), fromBits-add 8 8 (drop 8 (drop (i * 8) bits)), byte-at bytes small i, second, third)
+byte-then bytes small i j w next =
+    let place : i * 8 + 8 ≡ j * 8 = omega arith in
+    field-add bytes (i * 8) 8 w
+    ∙ ap (λ k. k * 2 ^ w + fieldAt bytes (i * 8 + 8) w) (byte-at bytes small i)
+    ∙ ap (λ k. getD bytes i 0 * 2 ^ w + fieldAt bytes k w) place
 
--- the number at a place is the middle of the three bytes from the place's byte on
-pub field-in-three : (bytes : List ℕ) (at w : ℕ) → w ≤ 16 → fieldAt bytes (at / 8 * 8) 24 / 2 ^ (24 - at % 8 - w) % 2 ^ w ≡ fieldAt bytes at w
+-- four bytes as one number
+pub four-bytes : (bytes : List ℕ) → Below 256 bytes → (i : ℕ)
+    → fieldAt bytes (i * 8) 32 ≡ getD bytes i 0 * 16777216 + getD bytes (i + 1) 0 * 65536 + getD bytes (i + 2) 0 * 256 + getD bytes (i + 3) 0
 unfolding fieldAt
-field-in-three bytes at w h =
-    let bits = bitsOf bytes in
-    let u = 24 - at % 8 - w in
-    let whole : 24 ≡ at % 8 + (w + u) = omega arith in
-    let place : at / 8 * 8 + at % 8 ≡ at = omega arith in
-    ap (λ k. fromBits k (drop (at / 8 * 8) bits) / 2 ^ u % 2 ^ w) whole
-    ∙ middle-bits (at % 8) w u (drop (at / 8 * 8) bits) (below-drop (at / 8 * 8) bits (bitsOf-below bytes))
-    ∙ ap (fromBits w) (drop-drop (at % 8) (at / 8 * 8) bits ∙ ap (λ k. drop k bits) place)
-
-pub field-below : (bytes : List ℕ) (at w : ℕ) → w ≤ 16 → fieldAt bytes at w < 65536
-unfolding fieldAt
-field-below bytes at w h = lt-of-lt-of-le (fromBits-below w (drop at (bitsOf bytes)) (below-drop at (bitsOf bytes) (bitsOf-below bytes))) (pow-mono h)
+four-bytes bytes small i =
+    let first = byte-then bytes small i (i + 1) 24 refl in
+    let second = byte-then bytes small (i + 1) (i + 2) 16 (omega arith) in
+    let third = byte-then bytes small (i + 2) (i + 3) 8 (omega arith) in
+    omega (arith, byte-at bytes small (i + 3))
 
 -- Lists of fields: those of some widths, then those of others.
 pub unpacked-append : (ws vs bits : List ℕ) → unpacked (ws ++ vs) bits ≡ unpacked ws bits ++ unpacked vs (drop (sum ws) bits)
@@ -127,6 +118,10 @@ fields-stored bytes old at w i h =
     ∙ set-at done (getD old i 0) (drop (suc i) old) x i (length-fieldsAt bytes at w i)
     ∙ sym (append-snoc done x (drop (suc i) old))
     ∙ ap (λ l. l ++ drop (suc i) old) (sym (fieldsAt-next bytes at w i))
+
+-- and its front is the fields
+pub fields-front : (bytes old new : List ℕ) (at w n : ℕ) → new ≡ fieldsAt bytes at w n ++ drop n old → take n new ≡ fieldsAt bytes at w n
+fields-front bytes old new at w n e = ap (take n) e ∙ take-at (fieldsAt bytes at w n) (drop n old) n (length-fieldsAt bytes at w n)
 
 -- The end: bits are all 0 exactly if their number is.
 zeros-number : (l : List ℕ) → every (λ b. eqb b 0) l ≡ eqb (fromBits (length l) l) 0

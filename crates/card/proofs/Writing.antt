@@ -71,7 +71,7 @@ pub ready-after : {k w : ℕ} {more before : List ℕ} {p : Pen} {after : List �
     → Draws k more before p after q
     → reach q + w < length after * 8 + 8
     → Ready k w after q
-ready-after d room = record { few = d .few; fits = d .fits; room = room }
+ready-after d room = record { few = d .few; room = room }
 
 -- The answer in parts: the counts, the lists, the codes' number, the rest.
 module _ (p : Plan) (size : ℕ) where

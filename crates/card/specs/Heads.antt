@@ -1,7 +1,9 @@
 -- The numbers at the head of a card, the lists behind it, and the reader's tests in the parts in which it makes them.
 use Prim.Native.Nat.{ℕ, _+_, _*_}
+use mathlib.Core.Path.{_≡_}
 use mathlib.Core.List.{List, [], _∷_}
 use lib.Dec.{leb, eqb}
+use lib.ListN.{take}
 use Rattle.yard.specs.declared.Answer.{Answer}
 use Rattle.yard.specs.Limits.{limits}
 use Rattle.yard.specs.Answers.{says, test, listTest}
@@ -52,3 +54,8 @@ sizeTests size h lengths inbound codes =
 -- 2 and 3 for the lists that the card has
 abbrev pub listsOn : List ℕ → ℕ → ℕ → List Answer
 listsOn bytes n m = listTests (lengthsOn bytes m) (inboundOn bytes n m)
+
+-- arrays that have these lists at their front
+pub record Held (bytes : List ℕ) (n m : ℕ) (trains order : List ℕ) : Type 0 where
+  pub lengths : take m trains ≡ lengthsOn bytes m
+  pub inbound : take n order ≡ inboundOn bytes n m

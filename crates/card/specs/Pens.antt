@@ -1,5 +1,5 @@
 -- A pen writes bits on a card in order: whole bytes at once, with a few bits pending.
-use Prim.Native.Nat.{ℕ, _+_, _*_, _^_, _≤_, _<_}
+use Prim.Native.Nat.{ℕ, _+_, _*_, _≤_, _<_}
 use mathlib.Core.Path.{_≡_}
 use mathlib.Core.List.{List, _++_}
 use lib.ListN.{length, take, drop}
@@ -20,7 +20,6 @@ reach p = p .at * 8 + p .count
 -- a pen with at most k bits pending, on a card with room for w bits more, or for their whole bytes at least
 pub record Ready (k w : ℕ) (bytes : List ℕ) (p : Pen) : Type 0 where
   pub few : p .count ≤ k
-  pub fits : p .pending < 2 ^ p .count
   pub room : reach p + w < length bytes * 8 + 8
 
 -- the pen drew these bits behind those drawn before, with at most k of them pending, and touched no byte but those it wrote
@@ -30,4 +29,3 @@ pub record Draws (k : ℕ) (more before : List ℕ) (p : Pen) (after : List ℕ)
   pub onward : p .at ≤ q .at
   pub reached : reach q ≡ reach p + length more
   pub few : q .count ≤ k
-  pub fits : q .pending < 2 ^ q .count

@@ -27,7 +27,14 @@ pub struct Head {
     pub trains: usize,
 }
 
-// A pen over a card: the bytes that it has written, and the bits still pending, as a number of `count` bits.
+// An eye on a card: its place, and the bits that it holds from there on, the lowest `held` of a number.
+pub struct Eye {
+    pub at: usize,
+    pub held: usize,
+    pub word: usize,
+}
+
+// A pen over a card: the bytes that it has written, and the bits still pending, the lowest `count` of a number.
 pub struct Pen {
     pub at: usize,
     pub count: usize,
@@ -71,7 +78,17 @@ pub fn read(card: &[u8], lengths: &mut [u16], inbound: &mut [u16], codes: &mut [
     ensures { λ r. ⌜ Reads (now (card .entry)) (now (lengths .entry)) (now (inbound .entry)) (now (codes .entry)) r (now (lengths .exit)) (now (inbound .exit)) (now (codes .exit)) ⌝ }
 {
     let head = reader::head(card);
-    let verdict = reader::verdict(card, head, lengths.len(), inbound.len(), codes.len());
+    let mut lengths_on = [0u16; 64];
+    let mut inbound_on = [0u16; 512];
+    let verdict = reader::verdict(
+        card,
+        head,
+        lengths.len(),
+        inbound.len(),
+        codes.len(),
+        &mut lengths_on,
+        &mut inbound_on,
+    );
     if verdict.number != 0 {
         let none = Head {
             edition: 0,
@@ -83,10 +100,9 @@ pub fn read(card: &[u8], lengths: &mut [u16], inbound: &mut [u16], codes: &mut [
         };
         return told(verdict, none);
     }
-    let inbound_at = HEAD + head.trains * NUMBER;
-    let codes_at = inbound_at + head.cars * NUMBER;
-    fields::fields(card, HEAD, NUMBER, head.trains, lengths);
-    fields::fields(card, inbound_at, NUMBER, head.cars, inbound);
+    let codes_at = HEAD + head.trains * NUMBER + head.cars * NUMBER;
+    intake::copy(&lengths_on, head.trains, lengths);
+    intake::copy(&inbound_on, head.cars, inbound);
     fields::fields(card, codes_at, head.steps, head.cars, codes);
     told(verdict, head)
 }

@@ -5,12 +5,13 @@ use crate::NUMBER;
 use crate::fields;
 use yard::Answer;
 ghost use mathlib.Core.Path.{_≡_};
+ghost use Prim.Native.Nat.{_≤_};
 ghost use lib.ListN.{length};
 ghost use Rattle.yard.specs.Limits.{limits};
 ghost use Rattle.yard.specs.Answers.{says, verdict};
 ghost use Rattle.yard.specs.Card.{readerVerdict};
 ghost use Rattle.card.specs.Plans.{Short};
-ghost use Rattle.card.specs.Heads.{headOf, headTests, sizeTests, listsOn};
+ghost use Rattle.card.specs.Heads.{headOf, headTests, sizeTests, listsOn, Held};
 
 // The numbers at the head of a card.
 pub fn head(card: &[u8]) -> Head
@@ -50,32 +51,34 @@ fn size_tests(size: usize, head: Head, lengths: usize, inbound: usize, codes: us
     intake::unless(intake::test(right <= size, 10, right), buffers)
 }
 
-// 2 and 3: fills the buffers with lengths and inbound numbers, and tests these.
-fn lists(card: &[u8], lengths: &mut [u16], inbound: &mut [u16]) -> Answer
-    requires { ⌜ Short 0 (length (now inbound)) (length (now lengths)) ⌝ }
-    ensures { λ r. ⌜ r ≡ verdict (listsOn (now (card .entry)) (length (now (inbound .entry))) (length (now (lengths .entry)))) (says 0 0 0) ⌝ }
+// 2 and 3: reads lengths and inbound numbers to the front of two arrays, and tests these.
+fn lists(
+    card: &[u8],
+    trains: usize,
+    cars: usize,
+    lengths: &mut [u16],
+    inbound: &mut [u16],
+) -> Answer
+    requires { ⌜ Short 0 cars trains × (trains ≤ length (now lengths)) × (cars ≤ length (now inbound)) ⌝ }
+    ensures { λ r. ⌜ (r ≡ verdict (listsOn (now (card .entry)) cars trains) (says 0 0 0)) × Held (now (card .entry)) cars trains (now (lengths .exit)) (now (inbound .exit)) ⌝ }
 {
-    let trains = lengths.len();
-    let cars = inbound.len();
     fields::fields(card, HEAD, NUMBER, trains, lengths);
     fields::fields(card, HEAD + trains * NUMBER, NUMBER, cars, inbound);
-    intake::lists(lengths, inbound)
+    intake::lists(&lengths[0..trains], &inbound[0..cars])
 }
 
-// 2 and 3: the lists on the card, tested in arrays of its own, so that a refused card writes nothing.
-fn night_tests(card: &[u8], cars: usize, trains: usize) -> Answer
-    requires { ⌜ Short 0 cars trains ⌝ }
-    ensures { λ r. ⌜ r ≡ verdict (listsOn (now (card .entry)) cars trains) (says 0 0 0) ⌝ }
-{
-    let mut lengths = [0u16; 64];
-    let mut inbound = [0u16; 512];
-    lists(card, &mut lengths[0..trains], &mut inbound[0..cars])
-}
-
-// The verdict on a card with this head, for buffers of these sizes.
-pub fn verdict(card: &[u8], head: Head, lengths: usize, inbound: usize, codes: usize) -> Answer
-    requires { ⌜ head ≡ headOf (now card) ⌝ }
-    ensures { λ r. ⌜ r ≡ readerVerdict limits (now (card .entry)) lengths inbound codes ⌝ }
+// The verdict on a card with this head, for buffers of these sizes: the lists of an accepted card stand in two arrays, the trains' lengths and the cars' order, so that a refused card writes nothing.
+pub fn verdict(
+    card: &[u8],
+    head: Head,
+    lengths: usize,
+    inbound: usize,
+    codes: usize,
+    trains: &mut [u16],
+    order: &mut [u16],
+) -> Answer
+    requires { ⌜ (head ≡ headOf (now card)) × (limits .trains ≤ length (now trains)) × (limits .cars ≤ length (now order)) ⌝ }
+    ensures { λ r. ⌜ (r ≡ readerVerdict limits (now (card .entry)) lengths inbound codes) × (r .number ≡ 0 → Held (now (card .entry)) (head .cars) (head .trains) (now (trains .exit)) (now (order .exit))) ⌝ }
 {
     let first = head_tests(card.len(), head);
     if first.number != 0 {
@@ -87,5 +90,6 @@ pub fn verdict(card: &[u8], head: Head, lengths: usize, inbound: usize, codes: u
     }
     let bits = crate::bits(head.steps, head.cars, head.trains);
     let last = intake::test(fields::ends(card, bits), 12, (bits + 7) / 8);
-    intake::unless(night_tests(card, head.cars, head.trains), last)
+    let night = lists(card, head.trains, head.cars, trains, order);
+    intake::unless(night, last)
 }

@@ -23,7 +23,7 @@ fn head(
     trains: usize,
 ) -> Pen
     requires { ⌜ 5 ≤ length (now card) ⌝ }
-    ensures { λ r. ⌜ Draws 7 (packed headWidths (1 ∷ steps ∷ tracks ∷ room ∷ cars ∷ trains ∷ [])) (now (card .entry)) fresh (now (card .exit)) r ⌝ }
+    ensures { λ r. ⌜ Draws 31 (packed headWidths (1 ∷ steps ∷ tracks ∷ room ∷ cars ∷ trains ∷ [])) (now (card .entry)) fresh (now (card .exit)) r ⌝ }
 {
     let start = Pen {
         at: 0,
@@ -55,7 +55,7 @@ pub fn draw(
     let with_lengths = pens::puts(card, head, NUMBER, lengths);
     let with_inbound = pens::puts(card, with_lengths, NUMBER, inbound);
     let with_codes = pens::puts(card, with_inbound, steps, codes);
-    pens::put(card, with_codes, 7, 0);
+    pens::close(card, with_codes);
 }
 
 // 1, 2, 3, 4, 7 and 4: the writer's answer on a plan, for a buffer of this size.

@@ -12,36 +12,50 @@ use Rattle.card.proofs.read.Tie as tie
 
 -- the head is within the limits, and the buffers have room
 room : (c : tie.Else1)
-    → let h = c .before .before .before .head .result in
-    let args = c .before .before .before .before .before .before .before .before .args in
+    → let judged = c .before .before .before .before in
+    let h = judged .before .before .before .head .result in
+    let args = judged .before .before .before .before .before .before .before .before .args in
     Short (h .steps) (h .cars) (h .trains) × (h .trains ≤ length (now (args .lengths))) × (h .cars ≤ length (now (args .inbound))) × (h .cars ≤ length (now (args .codes)))
 room c =
-    let args = c .before .before .before .before .before .before .before .before .args in
-    let accepted = accepted-room (now (args .card)) (now (args .lengths)) (now (args .inbound)) (now (args .codes)) (c .before .before .verdict .ensures) (c .if1 .left) in
-    rw (← (c .before .before .before .head .ensures)) at accepted
+    let judged = c .before .before .before .before in
+    let args = judged .before .before .before .before .before .before .before .before .args in
+    let accepted = accepted-room (now (args .card)) (now (args .lengths)) (now (args .inbound)) (now (args .codes)) (judged .verdict .ensures .0) (c .if1 .left) in
+    rw (← (judged .before .before .before .head .ensures)) at accepted
 
-fields-requires-3 : tie.Need-fields-requires-3
-fields-requires-3 c κs =
-    let r = room (c .before .before .before .before .before .before .before .before .before .before .before) in
+copy-requires : tie.Need-copy-requires
+copy-requires c κs =
+    let r = room (c .before .before .before .before) in
+    (omega (arith, r .0 .trains), r .1)
+
+copy-requires-2 : tie.Need-copy-requires-2
+copy-requires-2 c κs =
+    let r = room (c .before .before .before .before .before .before .before .before .before) in
+    (omega (arith, r .0 .cars), r .2)
+
+fields-requires : tie.Need-fields-requires
+fields-requires c κs =
+    let r = room (c .before .before .before .before .before .before .before .before .before .before .before .before .before) in
     let codes = mul-le-mul (r .0 .cars) (r .0 .steps) in
     omega arith
 
 returns : tie.Need-returns
 returns c =
-    let judged = c .before .before .before in
-    let args = judged .before .before .before .before .before .before .args in
-    reads-refused (now (args .card)) (now (args .lengths)) (now (args .inbound)) (now (args .codes)) (judged .verdict .ensures) (c .before .if1 .taken) (c .told .ensures)
+    let judged = c .before .before .before .before .before in
+    let args = judged .before .before .before .before .before .before .before .before .args in
+    reads-refused (now (args .card)) (now (args .lengths)) (now (args .inbound)) (now (args .codes)) (judged .verdict .ensures .0) (c .before .if1 .taken) (c .told .ensures)
 
 returns-2 : tie.Need-returns-2
 returns-2 c =
-    let third = c .before .before .before in
-    let second = third .before .before .before .before in
-    let first = second .before .before .before .before in
-    let passed = first .before .before .before .before in
-    let head = passed .before .before .before in
+    let codes = c .before .before .before in
+    let inbound = codes .before .before .before .before in
+    let lengths = inbound .before .before .before .before .before in
+    let passed = lengths .before .before .before .before .before in
+    let judged = passed .before .before .before .before in
+    let head = judged .before .before .before in
     let args = head .before .before .before .before .before .args in
-    rw (first .fields .ensures, second .fields2 .ensures, third .fields3 .ensures, head .head .ensures)
-    (reads-accepted (now (args .card)) (now (args .lengths)) (now (args .inbound)) (now (args .codes)) (passed .before .before .verdict .ensures) (passed .if1 .left)
+    let held = judged .verdict .ensures .1 (passed .if1 .left) in
+    rw (lengths .copy .ensures, held .lengths, inbound .copy2 .ensures, held .inbound, codes .fields .ensures, head .head .ensures)
+    (reads-accepted (now (args .card)) (now (args .lengths)) (now (args .inbound)) (now (args .codes)) (judged .verdict .ensures .0) (passed .if1 .left)
     (rw (head .head .ensures) at (c .told2 .ensures)))
 
 pub read-spec : {M : Type 1} → statement M
@@ -49,6 +63,8 @@ read-spec =
     tie.close
     (tie.spec
     (λ c κs. tt)
+    (λ c. search needs)
+    (λ c. search needs)
     (λ c κs. search needs)
     (λ c κs. tt)
     returns
@@ -56,9 +72,11 @@ read-spec =
     (λ c. omega (arith, room (c .before)))
     (λ c. omega (arith, room (c .before .before)))
     (λ c. omega (arith, room (c .before .before)))
-    (λ c κs. omega (arith, room (c .before .before .before)))
-    (λ c κs. omega (arith, room (c .before .before .before .before .before .before .before)))
-    fields-requires-3
+    (λ c. search needs)
+    copy-requires
+    (λ c. search needs)
+    copy-requires-2
+    fields-requires
     (λ c κs. tt)
     (λ c. search needs)
     (λ c. search needs)

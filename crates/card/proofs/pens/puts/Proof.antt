@@ -16,7 +16,7 @@ use Rattle.card.proofs.pens.puts.Tie as tie
 
 abbrev Inv-loop : tie.InvT-loop
 Inv-loop card₀ width xs moved₀ i₀ i-end card moved i =
-    (i ≤ length xs) × (length card ≡ length card₀) × Draws 7 (packed (replicate i width) (take i xs)) card₀ moved₀ card moved
+    (i ≤ length xs) × (length card ≡ length card₀) × Draws 31 (packed (replicate i width) (take i xs)) card₀ moved₀ card moved
 
 abbrev μ-loop : tie.MeasureT-loop
 μ-loop card₀ width xs moved₀ i₀ i-end card moved i = length xs - i
@@ -24,7 +24,7 @@ abbrev μ-loop : tie.MeasureT-loop
 loop-holds : tie.Need-loop-holds Inv-loop μ-loop
 loop-holds c =
     let start = c .before .before in
-    (zero-le, refl, draws-none (now (start .args .card)) (start .args .pen) (start .pre .1 .few) (start .pre .1 .fits))
+    (zero-le, refl, draws-none (now (start .args .card)) (start .args .pen) (start .pre .1 .few))
 
 cast-put : tie.Need-cast-put Inv-loop μ-loop
 cast-put c = omega (arith, c .shared-slice-known2 .given (c .before .before .before .loop .i))
@@ -38,7 +38,6 @@ put-requires c κs =
       start .pre .0,
       record {
         few = at-loop .loop .inv .2 .few;
-        fits = at-loop .loop .inv .2 .fits;
         room =
             omega (arith, run-length (now (start .args .xs)) w i (at-loop .loop .inv .0), suc-mul i w, mul-le-mul-right w (c .before .before .loop-test .taken));
       },

@@ -57,10 +57,10 @@ puts-requires-3 c κs =
     let start = inbound .before .before .before .before .before .before .before .before .before .before .before .before .before .before in
     (omega (arith, start .pre .short .steps), ready-after (inbound .puts2 .ensures) (omega (arith, after-inbound inbound)))
 
-put-requires : tie.Need-put-requires
-put-requires c κs =
+close-requires : tie.Need-close-requires
+close-requires c κs =
     let codes = c .before .before .before in
-    (omega arith, ready-after (codes .puts3 .ensures) (omega (arith, after-codes codes)))
+    ready-after (codes .puts3 .ensures) (omega (arith, after-codes codes))
 
 returns : tie.Need-returns
 returns c =
@@ -72,11 +72,11 @@ returns c =
     let start = head .before .before .before .before .before .before in
     let args = start .args in
     let p = planOf (now (args .lengths)) (now (args .inbound)) (args .tracks) (args .room) (args .steps) (now (args .codes)) in
-    let all = draws-then (draws-then (draws-then (draws-then (head .head .ensures) (lengths .puts .ensures)) (inbound .puts2 .ensures)) (codes .puts3 .ensures)) (zeros .put .ensures) in
-    let same : length (zeros .put .last .0) ≡ length (now (args .card)) =
-    zeros .put .kept .0 ∙ codes .puts3 .kept .0 ∙ inbound .puts2 .kept .0 ∙ lengths .puts .kept .0 ∙ head .head .kept .0 in
+    let all = draws-then (draws-then (draws-then (draws-then (head .head .ensures) (lengths .puts .ensures)) (inbound .puts2 .ensures)) (codes .puts3 .ensures)) (zeros .close .ensures) in
+    let same : length (zeros .close .last .0) ≡ length (now (args .card)) =
+    zeros .close .kept .0 ∙ codes .puts3 .kept .0 ∙ inbound .puts2 .kept .0 ∙ lengths .puts .kept .0 ∙ head .head .kept .0 in
     rw (card-bits p (start .pre .coded))
-    (draws-whole (cardBits p) (now (args .card)) (zeros .put .last .0) (zeros .put .result) all (λ i. c .slice-known6 .given i .fits) same (cardBits-room (start .pre)))
+    (draws-whole (cardBits p) (now (args .card)) (zeros .close .last .0) (zeros .close .result) all (λ i. c .slice-known6 .given i .fits) same (cardBits-room (start .pre)))
 
 pub draw-spec : {M : Type 1} → statement M
 draw-spec =
@@ -86,6 +86,6 @@ draw-spec =
     puts-requires
     puts-requires-2
     puts-requires-3
-    put-requires
+    close-requires
     (λ c. search needs)
     returns)

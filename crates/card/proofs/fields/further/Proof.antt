@@ -1,0 +1,28 @@
+-- The proof of `further`: an eye that holds enough stays, and else four bytes come behind its bits.
+use Prim.Native.Nat.{_+_, _*_, _/_}
+use native.Mathlib.Omega.{arith}
+use denote.Ref.{now}
+use borrow.Author.Needs.{needs}
+use Rattle.card.specs.Fields.{fieldAt}
+use Rattle.card.proofs.Words.{joined-fits}
+use Rattle.card.proofs.Places.{field-below}
+use Rattle.card.proofs.Seeing.{sees-further}
+use Rattle.card.proofs.fields.further.Statement.{statement}
+use Rattle.card.proofs.fields.further.Tie as tie
+
+add-t10 : tie.Need-add-t10
+add-t10 c =
+    let args = c .before .before .before .before .before .before .before .args in
+    let place = (args .eye .at + args .eye .held) / 8 * 8 in
+    rw (c .window .ensures)
+    (record { fits = joined-fits 32 (args .eye .word) (fieldAt (now (args .card)) place 32) (omega arith) (field-below (now (args .card)) place 32) })
+
+returns-2 : tie.Need-returns-2
+returns-2 c =
+    let start = c .before .before .before .before .before .before .before in
+    rw (c .window .ensures) (sees-further (start .args .width) (start .pre .2) (omega arith) (omega arith))
+
+pub further-spec : {M : Type 1} → statement M
+further-spec =
+    tie.close
+    (tie.spec (λ c. search needs) (λ c. search needs) (λ c. search needs) (λ c κs. search needs) add-t10 returns-2)
