@@ -27,8 +27,8 @@ fill-next f l d i m n =
     ap₂ (λ (u : List ℕ) (k : ℕ). u ++ drop k d) (sym (ap (map f) (ap (λ (k : ℕ). take k l) (add-one i) ∙ take-suc l i 0 m) ∙ map-append f (take i l) (getD l i 0 ∷ []))) (sym (add-one i))))
 
 -- a list of the same length is filled from end to end
-pub fill-whole : (f : ℕ → ℕ) (l d : List ℕ) (i : ℕ) → length l ≤ i → length d ≤ i → map f (take i l) ++ drop i d ≡ map f l
-fill-whole f l d i m n = ap₂ (λ (u v : List ℕ). map f u ++ v) (take-all i l m) (drop-of-length-le d n) ∙ append-nil (map f l)
+pub fill-whole : (made : List ℕ → List ℕ) (l d : List ℕ) (i : ℕ) → length l ≤ i → length d ≤ i → made (take i l) ++ drop i d ≡ made l
+fill-whole made l d i m n = ap₂ (λ (u v : List ℕ). made u ++ v) (take-all i l m) (drop-of-length-le d n) ∙ append-nil (made l)
 
 -- ---- car by car, in any order
 
