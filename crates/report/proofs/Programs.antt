@@ -66,22 +66,24 @@ module _ (p : Plan) (r : Answer) (checks : Checks p r) (e : r .number ≡ 0) whe
   pub checked-good : Good p
   checked-good =
       let all = check-accepts-exactly limits p .0 (sym (ap (λ q. q .number) (checks .answer)) ∙ e) in
-      record {
-        cars = all .0 .1;
-        trains = all .1 .0 .1;
-        tracks = all .1 .1 .0;
-        listed = record { nonempty = all .1 .1 .1 .1 .1 .0; adds = all .1 .1 .1 .1 .1 .1 .0; once = all .1 .1 .1 .1 .1 .1 .1 .0 };
-        builds = all .1 .1 .1 .1 .1 .1 .1 .1 .1 .1 .1 .1 .0;
-      }
+      let counts = all .given .counts in
+      record { cars = counts .cars .1; trains = counts .trains .1; tracks = counts .tracks; listed = all .given .lists; builds = all .builds }
 
   -- its replay to the last stage is accepted too
   replay-done : (trackSize placeSize : ℕ) → length (p .night .inbound) ≤ trackSize → length (p .night .inbound) ≤ placeSize → replayAnswer limits p (p .steps) trackSize placeSize .number ≡ 0
   replay-done trackSize placeSize a b =
       let all = check-accepts-exactly limits p .0 (sym (ap (λ q. q .number) (checks .answer)) ∙ e) in
-      let night = all .1 .1 .1 .1 .1 in
-      let plan = night .1 .1 .1 in
       replay-accepts-exactly limits p (p .steps) trackSize placeSize .1
-      (all .0, (all .1 .0, (all .1 .1 .0, (all .1 .1 .1 .0, (all .1 .1 .1 .1 .0, ((omega arith, le-refl (p .steps)), (night .0, (night .1 .0, (night .1 .1 .0, (plan .0, (a, (b, (plan .1 .0, (plan .1 .1 .0, (plan .1 .1 .1 .0, tt)))))))))))))))
+      (record {
+        given = all .given;
+        reached = (omega arith, le-refl (p .steps));
+        each = all .each;
+        tracks = a;
+        places = b;
+        below = all .below;
+        never = all .never;
+        room = all .room;
+      })
 
   module _ {on₀ at₀ on at : List ℕ} {q : Answer} (replays : Replays p (p .steps) on₀ at₀ q on at) (roomy : length (p .night .inbound) ≤ length on₀) (roomy′ : length (p .night .inbound) ≤ length at₀) where
     done : replayAnswer limits p (p .steps) (length on₀) (length at₀) .number ≡ 0

@@ -18,13 +18,14 @@ use Rattle.yard.specs.Answers.{says, test, listTest, codeTest}
 use Rattle.yard.specs.Calls.{countTests, nightCounts, nightTests}
 use Rattle.yard.specs.Card.{card, headField, cardPlan, rightLength, endsRight, writerTests, writerAnswer, Writes, readerTests, readerSays, readerVerdict, readerAnswer, Reads}
 use Rattle.yard.proofs.Verdict.{Passed, passed-append, verdict-passes, verdict-done, written-accepted}
-use Rattle.yard.proofs.Tests.{asks, Within, counts-passed, list-passed, sum-passed, code-passed, inbound-within, item-le-sum}
+use Rattle.yard.specs.Demands.{InLimits}
+use Rattle.yard.proofs.Tests.{asks, counts-passed, list-passed, sum-passed, code-passed, inbound-within, item-le-sum}
 use Rattle.yard.proofs.Bits.{Below}
 use Rattle.yard.proofs.Card.{card-length, cardLength-head, card-longest, Fitting, card-head, cardPlan-card, card-right-length, card-ends-right, cardPlan-head, IsCard, card-cardPlan, cardPlan-fitting}
 
 -- The writer accepts exactly if counts and lists pass, codes fit, and the buffer is long enough.
 pub record Writable (L : Limits) (p : Plan) (size : ℕ) : Type 0 where
-  pub counts : Within L (length (p .night .inbound)) (length (p .night .lengths)) (p .night .tracks) (p .night .room) (p .steps)
+  pub counts : InLimits L (length (p .night .inbound)) (length (p .night .lengths)) (p .night .tracks) (p .night .room) (p .steps)
   pub night : Passed (nightTests (p .night))
   pub coded : length (p .codes) ≡ length (p .night .inbound)
   pub codes : Below (2 ^ p .steps) (p .codes)
@@ -61,7 +62,7 @@ writer-accepts L p size =
 pub record Readable (L : Limits) (bytes : List ℕ) (a b c : ℕ) : Type 0 where
   pub edition : headField bytes 0 ≡ 1
   pub head : 5 ≤ length bytes
-  pub counts : Within L (headField bytes 4) (headField bytes 5) (headField bytes 2) (headField bytes 3) (headField bytes 1)
+  pub counts : InLimits L (headField bytes 4) (headField bytes 5) (headField bytes 2) (headField bytes 3) (headField bytes 1)
   pub whole : rightLength bytes ≤ length bytes
   pub lengths : headField bytes 5 ≤ a
   pub inbound : headField bytes 4 ≤ b

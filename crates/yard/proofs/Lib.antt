@@ -13,6 +13,7 @@ pub mod Standing
 pub mod Counting
 pub mod Trains
 pub mod Verdict
+pub mod Asks
 pub mod Bits
 pub mod Tests
 pub mod Card
@@ -22,7 +23,7 @@ pub mod Plans
 pub mod Building
 pub mod Least
 pub mod DerivedPlan
-pub mod Reasons
+pub mod Rights
 pub mod Demands
 pub mod CardDemands
 pub mod PlanYard
