@@ -7,7 +7,7 @@ use std::path::{Path, PathBuf};
 /// The one name by which Rust, Python and the second program are given another archive.
 const NAMED: &str = "ALTAIRPEG_ARCHIVE";
 const HELP: &str =
-    "run `rt staticlib altairpeg` in the repository's root, or let ALTAIRPEG_ARCHIVE name an archive";
+    "run `rt staticlib altairpeg` in the repository's root, or let ALTAIRPEG_ARCHIVE name another";
 /// How an archive begins, and the bytes of the head before each of its members.
 const MAGIC: &[u8] = b"!<arch>\n";
 const HEAD: usize = 60;
@@ -17,7 +17,7 @@ fn main() {
     let archive = archive();
     println!("cargo:rerun-if-changed={}", archive.display());
     if let Err(fault) = hand_over(&archive) {
-        eprintln!("{}: {fault}; {HELP}", archive.display());
+        eprintln!("{} {fault}: {HELP}", archive.display());
         std::process::exit(1);
     }
 }
