@@ -15,7 +15,8 @@ edition := $(firstword $(subst ., ,$(version)))
 prefix := $(shell realpath --no-symlinks --canonicalize-missing -- '$(PREFIX)')
 into = $(DESTDIR)$(prefix)
 
-sources := crates.txt $(shell find crates -name must-fail -prune -o -type f -print)
+# With the folders, whose dates tell of files that are gone.
+sources := crates.txt $(shell find crates -name must-fail -prune -o -print)
 archive := target/staticlib/libaltairpeg.a
 object := libaltairpeg.so.$(edition)
 shared := target/shared/$(object)

@@ -15,13 +15,13 @@ expect() { # WANTED WHAT COMMAND...: what the command prints is as wanted
 }
 
 # The flags that the pkg-config file gives, quoted for the shell.
-flags() {
+flags_given() {
     if command -v pkg-config > /dev/null; then
         PKG_CONFIG_PATH="$prefix/lib/pkgconfig" pkg-config --cflags --libs altairpeg
     else
         echo "install: no pkg-config here, so the flags of its file are taken by hand" >&2
         sed -n 's/^Cflags: //p; s/^Libs: //p' "$prefix/lib/pkgconfig/altairpeg.pc" |
-            sed "s|\${includedir}|$prefix/include|; s|\${libdir}|$prefix/lib|"
+            sed "s|\${includedir}|$prefix/include|; s|\${libdir}|$prefix/lib|" | tr '\n' ' '
     fi
 }
 
@@ -38,7 +38,7 @@ using_program() {
 strict=(gcc -Wall -Wextra -Wpedantic -Werror)
 
 try() { # NAME WANTED: the program, linked with the shared object, and with the archive alone
-    eval "\"\${strict[@]}\" \"\$folder/$1.c\" $(flags) -o \"\$folder/$1\""
+    eval "\"\${strict[@]}\" \"\$folder/$1.c\" $flags -o \"\$folder/$1\""
     expect "$2" "$1" env LD_LIBRARY_PATH="$prefix/lib" "$folder/$1"
     "${strict[@]}" -I"$prefix/include" "$folder/$1.c" "$prefix/lib/libaltairpeg.a" -o "$folder/$1"
     expect "$2" "$1 with the archive" "$folder/$1"
@@ -48,6 +48,7 @@ try() { # NAME WANTED: the program, linked with the shared object, and with the 
 prefix="$folder/a yard"
 make --silent all
 make --silent install RT=false PREFIX="$prefix"
+flags=$(flags_given)
 readme_program > "$folder/readme.c"
 using_program > "$folder/using.c"
 try readme "0 2 11: 0 0 1 1 2 3"
