@@ -37,7 +37,8 @@ Libs: -L"$${libdir}" -laltairpeg
 endef
 export pkgconfig
 
-needs-kit = @command -v $(RT) > /dev/null || { echo 'target/ is not built or not current, and there is no $(RT) to prove and build it' >&2; exit 1; }
+no-kit := target/ is not built or not current, and there is no $(RT) to prove and build it
+needs-kit = @command -v $(RT) > /dev/null || { echo '$(no-kit)' >&2; exit 1; }
 
 .PHONY: all install uninstall
 # The prover must not run twice at a time in one target/.

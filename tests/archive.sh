@@ -1,5 +1,5 @@
 #!/usr/bin/env bash
-# ALTAIRPEG_ARCHIVE is obeyed by rust/ and second/, whatever the age of the archive, and one that won't do is told in a sentence.
+# ALTAIRPEG_ARCHIVE is obeyed by rust/ and second/ whatever the archive's age, and one that won't do is told in a sentence.
 set -euo pipefail
 cd "$(dirname "$0")/.."
 folder=$(mktemp -d)

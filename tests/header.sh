@@ -6,7 +6,8 @@ folder=$(mktemp -d)
 trap 'rm -rf "$folder"' EXIT
 
 try() { # COMPILER LANGUAGE STANDARD
-    "$1" -x "$2" -std="$3" -Wall -Wextra -Wpedantic -Werror -Iinclude tests/header.c -x none target/staticlib/libaltairpeg.a -o "$folder/calls"
+    "$1" -std="$3" -Wall -Wextra -Wpedantic -Werror -Iinclude -x "$2" tests/header.c \
+        -x none target/staticlib/libaltairpeg.a -o "$folder/calls"
     "$folder/calls"
 }
 
