@@ -1,5 +1,5 @@
 #!/usr/bin/env bash
-# ALTAIRPEG_ARCHIVE is obeyed by rust/ and second/ whatever the archive's age, and one that won't do is told in a sentence.
+# rust/ and second/ take the archive that ALTAIRPEG_ARCHIVE names, whatever its age, and say in a sentence if it won't do.
 set -euo pipefail
 cd "$(dirname "$0")/.."
 folder=$(mktemp -d)
