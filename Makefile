@@ -5,7 +5,7 @@
 #
 # What is newer than all it is made of is taken as it is; only otherwise rt proves and builds it.
 
-PREFIX = /usr/local
+PREFIX ?= /usr/local
 RT = rt
 CC := $(if $(filter default,$(origin CC)),gcc,$(CC))
 
@@ -38,24 +38,27 @@ endef
 export pkgconfig
 
 no-kit := target/ is not built or not current, and there is no $(RT) to prove and build it
-needs-kit = @command -v $(RT) > /dev/null || { echo '$(no-kit)' >&2; exit 1; }
+
+# Runs rt, alone in target/ (./plan takes the same lock). What it makes gets the date of the start: so a source changed
+# meanwhile is newer, and what rt left alone since no change reaches it is current.
+define prove
+@command -v $(RT) > /dev/null || { echo '$(no-kit)' >&2; exit 1; }
+@mkdir -p target && touch target/begun
+flock target/plan.lock $(RT) $(1)
+@touch -r target/begun $(2)
+endef
 
 .PHONY: all install uninstall
-# The prover must not run twice at a time in one target/.
 .NOTPARALLEL:
 .DELETE_ON_ERROR:
 
 all: $(archive) $(shared) $(programs)
 
 $(archive): $(sources)
-	$(needs-kit)
-	$(RT) staticlib altairpeg
+	$(call prove,staticlib altairpeg,$(archive))
 
-# Linked anew only where something changed, so the date says that rt was asked.
 $(programs) &: $(sources)
-	$(needs-kit)
-	$(RT) check nightcard nightplan
-	touch $(programs)
+	$(call prove,check nightcard nightplan,$(programs))
 
 $(shared): $(archive) Makefile
 	mkdir -p $(@D)

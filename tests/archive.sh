@@ -1,12 +1,8 @@
 #!/usr/bin/env bash
 # rust/ and second/ take the archive that ALTAIRPEG_ARCHIVE names, whatever its age, and say in a sentence if it won't do.
-set -euo pipefail
-cd "$(dirname "$0")/.."
-folder=$(mktemp -d)
-trap 'rm -rf "$folder"' EXIT
+. "$(dirname "$0")/scratch.sh"
 export CARGO_TARGET_DIR="$folder/target"
-
-fail() { echo "archive: $*" >&2; exit 1; }
+unset ALTAIRPEG_ARCHIVE
 
 # An archive with every name of the header, in which each call refuses 99, a number that no paper has.
 stub() {

@@ -1,9 +1,6 @@
 #!/usr/bin/env bash
 # The header is clean in C and C++, and every call behind it does what it says.
-set -euo pipefail
-cd "$(dirname "$0")/.."
-folder=$(mktemp -d)
-trap 'rm -rf "$folder"' EXIT
+. "$(dirname "$0")/scratch.sh"
 
 try() { # COMPILER LANGUAGE STANDARD
     "$1" -std="$3" -Wall -Wextra -Wpedantic -Werror -Iinclude -x "$2" tests/header.c \

@@ -1,11 +1,6 @@
 #!/usr/bin/env bash
 # Installs into a scratch folder, builds and runs the papers' C programs with what is there, and takes all away again.
-set -euo pipefail
-cd "$(dirname "$0")/.."
-folder=$(mktemp -d)
-trap 'rm -rf "$folder"' EXIT
-
-fail() { echo "install: $*" >&2; exit 1; }
+. "$(dirname "$0")/scratch.sh"
 
 expect() { # WANTED WHAT COMMAND...: what the command prints is as wanted
     local wanted=$1 what=$2 got
@@ -54,7 +49,7 @@ using_program > "$folder/using.c"
 try readme "0 2 11: 0 0 1 1 2 3"
 try using "0 2 11"
 
-printf '\x12\x20\x0c\x06\x02\x03\x00\x60\x30\x02\x02\x80\x40\x20\x2d\x80' > "$folder/card"
+first_card > "$folder/card"
 lines=$'steps 2 tracks 2 room 3 cars 6 trains 1 passes 11\ntrain 1: 1 2 3 4 5 6'
 expect "$lines" nightcard "$prefix/bin/nightcard" < "$folder/card"
 "$prefix/bin/nightplan" < "$folder/card" | cmp - "$folder/card" || fail "nightplan writes another card"

@@ -1,12 +1,7 @@
 #!/usr/bin/env bash
 # The words of header, Rust and Python are those of the table, and a new row of it is all that a new number needs.
-set -euo pipefail
-cd "$(dirname "$0")/.."
+. "$(dirname "$0")/scratch.sh"
 python3 words/make.py --check
-folder=$(mktemp -d)
-trap 'rm -rf "$folder"' EXIT
-
-fail() { echo "words: $*" >&2; exit 1; }
 
 cp --parents -r words include rust/src/words.rs python/altairpeg/words.py "$folder"
 cd "$folder"
