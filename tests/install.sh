@@ -1,6 +1,7 @@
 #!/usr/bin/env bash
 # Installs into a scratch folder, builds and runs the papers' C programs with what is there, and takes all away again.
 . "$(dirname "$0")/scratch.sh"
+command -v make > /dev/null || { echo "install: no make here, so not tried"; exit 0; }
 
 expect() { # WANTED WHAT COMMAND...: what the command prints is as wanted
     local wanted=$1 what=$2 got
