@@ -272,6 +272,13 @@ const FEWEST: [u8; 256] = [
     1,
 ];
 
+// The table, with its rule: computed over all codes here, and nowhere else.
+fn table() -> [u8; 256]
+    ensures { λ r. ⌜ r ≡ gaps 8 ⌝ }
+{
+    FEWEST
+}
+
 // An entry of the table, as wide as the counts.
 fn wide(entry: u8) -> usize
     ensures { λ r. ⌜ r ≡ entry ⌝ }
@@ -283,7 +290,8 @@ fn wide(entry: u8) -> usize
 pub fn fewest_tracks(code: u8) -> usize
     ensures { λ r. ⌜ r ≡ fewestTracks 8 code ⌝ }
 {
-    wide(FEWEST[code as usize])
+    let table = table();
+    wide(table[code as usize])
 }
 
 // The index of the first code whose entry of the table is above these tracks, or the number of codes where none is.
@@ -304,7 +312,7 @@ pub fn first_wider(codes: &[u16], tracks: usize) -> usize
     requires { ⌜ OfEight (now codes) ⌝ }
     ensures { λ r. ⌜ r ≡ firstWider tracks (now (codes .entry)) ⌝ }
 {
-    let table = FEWEST;
+    let table = table();
     first_above(&table, codes, tracks)
 }
 
