@@ -29,10 +29,6 @@ pub record Given (n : Night) (limit size : ℕ) : Type 0 where
   pub lists : Listed (n .lengths) (n .inbound)
   pub buffer : length (n .inbound) ≤ size
 
--- the items of a list are below k
-pub record Below (k : ℕ) (l : List ℕ) : Type 0 where
-  pub item : (i : ℕ) → i < length l → getD l i 0 < k
-
 -- 6, or else the steps and the passes, worked out from the codes
 abbrev pub settled : ℕ → ℕ → List ℕ → Answer
 settled room steps codes =

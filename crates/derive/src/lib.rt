@@ -9,14 +9,10 @@ ghost use Rattle.yard.specs.Codes.{F, codeNumber};
 ghost use Rattle.yard.specs.Limits.{limits};
 ghost use Rattle.yard.specs.Answers.{says, verdict};
 ghost use Rattle.yard.specs.Calls.{Derives};
-ghost use Rattle.yard.specs.Demands.{Listed};
+ghost use Rattle.yard.specs.Demands.{Within, Listed};
+ghost use Rattle.codes.specs.Front.{Under};
 ghost use Rattle.derive.specs.Numbers.{turned, Train, Numbers};
-ghost use Rattle.derive.specs.Plans.{nightOf, givenTests, Given, Below, Settles, Planned};
-
-// The most cars of a night, and the codes of the most steps.
-const CARS: usize = 512;
-
-const CODES: usize = 256;
+ghost use Rattle.derive.specs.Plans.{nightOf, givenTests, Given, Settles, Planned};
 
 // 1 where the car behind this one comes in before it, else 0.
 fn turned(places: &[u16], car: usize) -> usize
@@ -28,7 +24,7 @@ fn turned(places: &[u16], car: usize) -> usize
 
 // Writes the breaks before each car of the train behind the first cars and up to an end, and answers the breaks in it.
 fn train(places: &[u16], before: usize, end: usize, into: &mut [u16]) -> usize
-    requires { ⌜ (before < end) × (end ≤ 65536) × (end ≤ length (now places)) × (end ≤ length (now into)) ⌝ }
+    requires { ⌜ (before < end) × (end ≤ limits .cars) × (end ≤ length (now places)) × (end ≤ length (now into)) ⌝ }
     ensures { λ r. ⌜ Train (now (places .entry)) before end (now (into .entry)) r (now (into .exit)) ⌝ }
 {
     into[before] = 0;
@@ -45,7 +41,7 @@ fn numbers(lengths: &[u16], inbound: &[u16], into: &mut [u16]) -> usize
     requires { ⌜ Listed (now lengths) (now inbound) × (length (now inbound) ≤ limits .cars) × (length (now inbound) ≤ length (now into)) ⌝ }
     ensures { λ r. ⌜ Numbers (now (lengths .entry)) (now (inbound .entry)) r (now (into .exit)) ⌝ }
 {
-    let mut by_car = [0u16; CARS];
+    let mut by_car = [0u16; yard::CARS];
     sorting::order::places(inbound, &mut by_car);
     let mut most: usize = 0;
     let mut before: usize = 0;
@@ -62,10 +58,10 @@ fn numbers(lengths: &[u16], inbound: &[u16], into: &mut [u16]) -> usize
 
 // Puts the usable code number q in the place of each number q.
 fn give(tracks: usize, steps: usize, numbers: &mut [u16])
-    requires { ⌜ (1 ≤ tracks) × (tracks ≤ 16) × (steps ≤ 8) × Below (F tracks steps) (now numbers) ⌝ }
+    requires { ⌜ Within 1 (limits .tracks) tracks × (steps ≤ limits .steps) × Under (F tracks steps) (now numbers) ⌝ }
     ensures { λ _. ⌜ now (numbers .exit) ≡ map (codeNumber tracks steps) (now (numbers .entry)) ⌝ }
 {
-    let mut table = [0u16; CODES];
+    let mut table = [0u16; codes::CODES];
     codes::usable_codes(tracks, steps, &mut table);
     for i in 0..numbers.len() {
         let q = numbers[i] as usize;
@@ -75,7 +71,7 @@ fn give(tracks: usize, steps: usize, numbers: &mut [u16])
 
 // 6 for the codes of a plan, or else its steps and passes, with the codes written.
 fn settle(room: usize, steps: usize, derived: &[u16], codes: &mut [u16]) -> Answer
-    requires { ⌜ (steps ≤ 16) × (length (now derived) ≤ 4095) × (length (now derived) ≤ length (now codes)) ⌝ }
+    requires { ⌜ (steps ≤ limits .steps) × (length (now derived) ≤ limits .cars) × (length (now derived) ≤ length (now codes)) ⌝ }
     ensures { λ r. ⌜ Settles room steps (now (derived .entry)) (now (codes .entry)) r (now (codes .exit)) ⌝ }
 {
     let fullest = sorting::fullest(derived, steps);
@@ -99,7 +95,7 @@ fn plan(
     requires { ⌜ Given (nightOf (now lengths) (now inbound) tracks room) limit (length (now codes)) ⌝ }
     ensures { λ r. ⌜ Planned (nightOf (now (lengths .entry)) (now (inbound .entry)) tracks room) limit (now (codes .entry)) r (now (codes .exit)) ⌝ }
 {
-    let mut derived = [0u16; CARS];
+    let mut derived = [0u16; yard::CARS];
     let most = numbers(lengths, inbound, &mut derived);
     let steps = codes::fewest_steps(tracks, most);
     if limit < steps {

@@ -14,17 +14,6 @@ ghost use Rattle.yard.specs.Calls.{countTests};
 ghost use Rattle.intake.specs.Tests.{listTests};
 ghost use Rattle.intake.specs.Marks.{marked, markable, unfit, Marks};
 
-// The limits of document 01.
-const CARS: usize = 512;
-
-const TRAINS: usize = 64;
-
-const TRACKS: usize = 8;
-
-const ROOM: usize = 512;
-
-const STEPS: usize = 8;
-
 // A number and its two details.
 pub fn answer(number: usize, a: usize, b: usize) -> Answer
     ensures { λ r. ⌜ r ≡ says number a b ⌝ }
@@ -68,10 +57,13 @@ pub fn in_range(a: usize, low: usize, high: usize, x: usize) -> Answer
 pub fn counts(cars: usize, trains: usize, tracks: usize, room: usize, steps: usize) -> Answer
     ensures { λ r. ⌜ r ≡ verdict (countTests limits cars trains tracks room steps) (says 0 0 0) ⌝ }
 {
-    let from_room = unless(in_range(4, 1, ROOM, room), in_range(5, 0, STEPS, steps));
-    let from_tracks = unless(in_range(3, 1, TRACKS, tracks), from_room);
-    let from_trains = unless(in_range(2, 1, TRAINS, trains), from_tracks);
-    unless(in_range(1, 1, CARS, cars), from_trains)
+    let from_room = unless(
+        in_range(4, 1, yard::ROOM, room),
+        in_range(5, 0, yard::STEPS, steps),
+    );
+    let from_tracks = unless(in_range(3, 1, yard::TRACKS, tracks), from_room);
+    let from_trains = unless(in_range(2, 1, yard::TRAINS, trains), from_tracks);
+    unless(in_range(1, 1, yard::CARS, cars), from_trains)
 }
 
 // 2: no train of length 0, or else the first such train.
@@ -88,7 +80,7 @@ pub fn trains(lengths: &[u16]) -> Answer
 
 // The cars of all trains together.
 pub fn total(lengths: &[u16]) -> usize
-    requires { ⌜ length (now lengths) ≤ 4096 ⌝ }
+    requires { ⌜ length (now lengths) ≤ limits .trains ⌝ }
     ensures { λ r. ⌜ r ≡ sum (now (lengths .entry)) ⌝ }
 {
     let mut cars: usize = 0;
@@ -100,7 +92,7 @@ pub fn total(lengths: &[u16]) -> usize
 
 // 2: lengths that add up to n, or else refused with 0.
 pub fn sum(lengths: &[u16], n: usize) -> Answer
-    requires { ⌜ length (now lengths) ≤ 4096 ⌝ }
+    requires { ⌜ length (now lengths) ≤ limits .trains ⌝ }
     ensures { λ r. ⌜ r ≡ sumTest (now (lengths .entry)) n ⌝ }
 {
     test(total(lengths) == n, 2, 0)
@@ -139,7 +131,7 @@ pub fn inbound(inbound: &[u16]) -> Answer
     requires { ⌜ length (now inbound) ≤ limits .cars ⌝ }
     ensures { λ r. ⌜ r ≡ inboundTest (now (inbound .entry)) ⌝ }
 {
-    let mut marks = [0u8; CARS];
+    let mut marks = [0u8; yard::CARS];
     for i in 0..inbound.len() {
         let car = inbound[i] as usize;
         if unfit(&marks, car, inbound.len()) {
@@ -195,7 +187,7 @@ fn largest(codes: &[u16]) -> u16
 
 // 7, by a search for the first car with a code of 2 to the steps or more.
 fn wide_code(codes: &[u16], steps: usize) -> Answer
-    requires { ⌜ steps ≤ 16 ⌝ }
+    requires { ⌜ steps ≤ limits .steps ⌝ }
     ensures { λ r. ⌜ r ≡ codeTest steps (now (codes .entry)) ⌝ }
 {
     let bound = power(steps);
@@ -209,7 +201,7 @@ fn wide_code(codes: &[u16], steps: usize) -> Answer
 
 // 7: each code below 2 to the steps, or else the first car with another. The largest code tells at once that there is none to look for.
 pub fn codes(codes: &[u16], steps: usize) -> Answer
-    requires { ⌜ steps ≤ 16 ⌝ }
+    requires { ⌜ steps ≤ limits .steps ⌝ }
     ensures { λ r. ⌜ r ≡ codeTest steps (now (codes .entry)) ⌝ }
 {
     if power(steps) <= largest(codes) as usize {

@@ -15,7 +15,7 @@ use Rattle.yard.proofs.Lists.{count-head, count-tail, upFrom-bounds, keep-same}
 use Rattle.yard.proofs.Replay.{sorted-count}
 use Rattle.yard.proofs.Building.{train-cars}
 use Rattle.yard.proofs.DerivedPlan.{by-car, length-by-car}
-use Rattle.sorting.specs.Stages.{CarsOf, sortedTo, trackBy, placeBy, Standable}
+use Rattle.sorting.specs.Stages.{CarsOf, sortedTo, trackBy, placeBy, allTracks, Standable}
 use Rattle.sorting.proofs.Filling.{item-within}
 use Rattle.sorting.proofs.Keys.{sortedTo-is, sortedTo-length}
 use Rattle.plans.specs.Closed.{Placeable, Placed}
@@ -38,14 +38,14 @@ module _ (lengths inbound codes : List ℕ) (W h stage : ℕ) (on at : List ℕ)
   pub cars-of : CarsOf (length codes) inbound
   cars-of i m = subst (λ (n : ℕ). Within 1 n (getD inbound i 0)) (sym (p .counted .each)) (item-within inbound (p .lists .once) i m)
 
-  -- a car's track is one of 16 sorting tracks and 64 destinations
-  track-below : (car : ℕ) → Within 1 (length inbound) car → trackBy lengths codes W h stage car < 80
+  -- a car's track is a sorting track or a destination
+  track-below : (car : ℕ) → Within 1 (length inbound) car → trackBy lengths codes W h stage car < allTracks
   track-below car w = go (ltb next h)
     where
       next : ℕ
       next = nextStep h (itemOf codes car) stage
 
-      go : (b : Bool) → cond b (next % W) (W + trainOf lengths car - 1) < 80
+      go : (b : Bool) → cond b (next % W) (W + trainOf lengths car - 1) < allTracks
       go true = omega (arith, mod-lt next (p .tracks .0), p .tracks .1)
       go false =
           let r = train-cars lengths inbound (p .lists) car w in

@@ -62,9 +62,9 @@ placedTests lengths inbound codes on at =
 pub record Placeable (lengths inbound codes : List ℕ) (W h stage : ℕ) (on at : List ℕ) : Type 0 where
   pub counted : Counted lengths inbound codes
   pub lists : Listed lengths inbound
-  pub tracks : Within 1 16 W
+  pub tracks : Within 1 (limits .tracks) W
   pub upto : stage ≤ h
-  pub steps : h ≤ 8
+  pub steps : h ≤ limits .steps
   pub roomOn : length inbound ≤ length on
   pub roomAt : length inbound ≤ length at
 

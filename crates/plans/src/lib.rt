@@ -25,7 +25,7 @@ fn given(lengths: &[u16], inbound: &[u16], codes: &[u16]) -> Answer
 
 // 8: no car pulled early, or else the lowest car of the first such step.
 fn early(codes: &[u16], tracks: usize, steps: usize) -> Answer
-    requires { ⌜ (0 < tracks) × (steps ≤ 16) ⌝ }
+    requires { ⌜ (0 < tracks) × (steps ≤ limits .steps) ⌝ }
     ensures { λ r. ⌜ r ≡ earlyAnswer (earlyFound tracks steps (now (codes .entry))) ⌝ }
 {
     let found = sorting::early::first_early(codes, tracks, steps);
@@ -37,7 +37,7 @@ fn early(codes: &[u16], tracks: usize, steps: usize) -> Answer
 
 // 8 for codes below 2 to the steps: the table's word for each code comes first, and the search only where it does not do.
 fn kept(codes: &[u16], tracks: usize, steps: usize) -> Answer
-    requires { ⌜ (0 < tracks) × (steps ≤ 8) × CodesBelow steps (now codes) ⌝ }
+    requires { ⌜ (0 < tracks) × (steps ≤ limits .steps) × CodesBelow steps (now codes) ⌝ }
     ensures { λ r. ⌜ r ≡ waitTest tracks steps (now (codes .entry)) ⌝ }
 {
     if codes::first_wider(codes, tracks) < codes.len() {
@@ -48,7 +48,7 @@ fn kept(codes: &[u16], tracks: usize, steps: usize) -> Answer
 
 // 6: no track overfilled, or else the first such step and its cars.
 fn full(codes: &[u16], fullest: usize, room: usize, steps: usize) -> Answer
-    requires { ⌜ (steps ≤ 16) × (length (now codes) ≤ 4096) × (fullest ≡ mostNamed (now codes) steps) ⌝ }
+    requires { ⌜ (steps ≤ limits .steps) × (length (now codes) ≤ limits .cars) × (fullest ≡ mostNamed (now codes) steps) ⌝ }
     ensures { λ r. ⌜ r ≡ fullTest room steps (now (codes .entry)) ⌝ }
 {
     let step = sorting::first_above(codes, steps, room, fullest);
@@ -61,7 +61,7 @@ fn full(codes: &[u16], fullest: usize, room: usize, steps: usize) -> Answer
 
 // 7, 8 and 6: what the codes alone can break, with their fullest pull.
 fn sound(codes: &[u16], fullest: usize, tracks: usize, room: usize, steps: usize) -> Answer
-    requires { ⌜ (0 < tracks) × (steps ≤ 8) × (length (now codes) ≤ 4096) × (fullest ≡ mostNamed (now codes) steps) ⌝ }
+    requires { ⌜ (0 < tracks) × (steps ≤ limits .steps) × (length (now codes) ≤ limits .cars) × (fullest ≡ mostNamed (now codes) steps) ⌝ }
     ensures { λ r. ⌜ r ≡ verdict (soundTests tracks room steps (now (codes .entry))) (says 0 0 0) ⌝ }
 {
     let below = intake::codes(codes, steps);
@@ -81,14 +81,14 @@ fn first_pair(lengths: &[u16], inbound: &[u16], codes: &[u16]) -> usize
     ensures { λ r. ⌜ r ≡ firstPair (now (lengths .entry)) (now (inbound .entry)) (now (codes .entry)) ⌝ }
 {
     let n = codes.len();
-    let mut places = [0u16; 512];
+    let mut places = [0u16; yard::CARS];
     sorting::order::places(inbound, &mut places);
     sorting::order::first_unruled(lengths, &places[0..n], codes)
 }
 
 // 9: the trains in order, or else the lowest second car of a pair that breaks the rule; then the passes and the fullest pull.
 fn ordered(lengths: &[u16], inbound: &[u16], codes: &[u16], fullest: usize, steps: usize) -> Answer
-    requires { ⌜ Counted (now lengths) (now inbound) (now codes) × Listed (now lengths) (now inbound) × (steps ≤ 16) × (fullest ≡ mostNamed (now codes) steps) ⌝ }
+    requires { ⌜ Counted (now lengths) (now inbound) (now codes) × Listed (now lengths) (now inbound) × (steps ≤ limits .steps) × (fullest ≡ mostNamed (now codes) steps) ⌝ }
     ensures { λ r. ⌜ r ≡ verdict (pairTest (now (lengths .entry)) (now (inbound .entry)) (now (codes .entry)) ∷ []) (says 0 (length (now (codes .entry)) + setBelow steps (now (codes .entry))) (mostNamed (now (codes .entry)) steps)) ⌝ }
 {
     let j = first_pair(lengths, inbound, codes);
@@ -176,7 +176,7 @@ fn stand(
     ensures { λ _. ⌜ Placed (now (lengths .entry)) (now (inbound .entry)) (now (codes .entry)) tracks steps stage (now (on .entry)) (now (at .entry)) (now (on .exit)) (now (at .exit)) ⌝ }
 {
     let n = codes.len();
-    let mut order = [0u16; 512];
+    let mut order = [0u16; yard::CARS];
     stand_with(
         lengths,
         inbound,

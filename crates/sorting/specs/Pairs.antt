@@ -5,6 +5,7 @@ use mathlib.Core.Bool.{Bool, not, _&&_}
 use mathlib.Core.List.{List}
 use lib.Dec.{ltb}
 use lib.ListN.{length}
+use Rattle.yard.specs.Limits.{limits}
 use Rattle.yard.specs.Night.{sum, itemOf, pair}
 use Rattle.yard.specs.Answers.{ruled}
 use Rattle.yard.specs.Demands.{NoneEmpty}
@@ -22,7 +23,7 @@ pub record Part (places codes : List ℕ) (before end : ℕ) : Type 0 where
   pub some : before < end
   pub upto : end ≤ length codes
   pub place : length places ≡ length codes
-  pub few : length codes ≤ 4096
+  pub few : length codes ≤ limits .cars
 
 -- trains that hold all cars, with a place and a code for each
 pub record Ordering (lengths places codes : List ℕ) : Type 0 where
@@ -30,4 +31,4 @@ pub record Ordering (lengths places codes : List ℕ) : Type 0 where
   pub full : NoneEmpty lengths
   pub all : sum lengths ≡ length codes
   pub place : length places ≡ length codes
-  pub few : length codes ≤ 4096
+  pub few : length codes ≤ limits .cars

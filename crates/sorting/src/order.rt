@@ -3,6 +3,7 @@ ghost use mathlib.Core.Path.{_≡_};
 ghost use mathlib.Core.List.{_++_, map};
 ghost use Prim.Native.Nat.{_+_, _-_, _≤_, _<_};
 ghost use lib.ListN.{length, drop};
+ghost use Rattle.yard.specs.Limits.{limits};
 ghost use Rattle.yard.specs.Words.{place, first, tally, total, upFrom};
 ghost use Rattle.yard.specs.Night.{cars};
 ghost use Rattle.yard.specs.Answers.{ruled};
@@ -11,7 +12,7 @@ ghost use Rattle.sorting.specs.Pairs.{unruledBy, unruledAt, Part, Orderi
 
 // The place of each car in the inbound list, from 0, in car order.
 pub fn places(inbound: &[u16], into: &mut [u16])
-    requires { ⌜ (length (now inbound) ≤ length (now into)) × (length (now inbound) ≤ 4096) × EachOnce (now inbound) ⌝ }
+    requires { ⌜ (length (now inbound) ≤ length (now into)) × (length (now inbound) ≤ limits .cars) × EachOnce (now inbound) ⌝ }
     ensures { λ _. ⌜ now (into .exit) ≡ map (λ car. place car (now (inbound .entry))) (cars (length (now (inbound .entry)))) ++ drop (length (now (inbound .entry))) (now (into .entry)) ⌝ }
 {
     for i in 0..inbound.len() {

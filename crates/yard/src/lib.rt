@@ -1,4 +1,17 @@
-// What the yard is told: the answers of the calls, as document 01 has them. The meaning of each stands in specs/.
+// What the yard is told: the answers of the calls, as document 01 has them, and its limits. The meaning of each stands in specs/.
+
+// The most cars, trains, sorting tracks, cars on a track, steps, and passes of a priced night. They are those of `limits` (specs/Limits.antt).
+pub const CARS: usize = 512;
+
+pub const TRAINS: usize = 64;
+
+pub const TRACKS: usize = 8;
+
+pub const ROOM: usize = 512;
+
+pub const STEPS: usize = 8;
+
+pub const PASSES: usize = 4608;
 
 // A number, 0 where all is done, and two details, 0 where unused.
 #[repr(C)]

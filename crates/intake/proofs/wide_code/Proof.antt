@@ -19,7 +19,7 @@ abbrev μ-loop : tie.MeasureT-loop
 μ-loop codes steps bound i₀ i-end i = length codes - i
 
 power-requires : tie.Need-power-requires Inv-loop μ-loop
-power-requires c κs = c .before .pre
+power-requires c κs = omega arith
 
 loop-holds : tie.Need-loop-holds Inv-loop μ-loop
 loop-holds c = (zero-le, below-none _)
