@@ -136,7 +136,8 @@ first-is-least p n a P into outof found =
 pub plain-right : (k : ℕ) (passed : Bool) (a : ℕ) (asked : Type 0) → ((passed ≡ true) ↔ asked) → Right (plain (suc k) passed a asked)
 plain-right k passed a asked exactly = record { named = suc-ne-zero k; exactly = exactly; tells = λ e x y. (λ t. t, λ t. t) }
 
-pub least-right : (k : ℕ) (passed : Bool) (a : ℕ) (asked : Type 0) (P : ℕ → Type 0) → ((passed ≡ true) ↔ asked) → (passed ≡ false → Least P a) → Right (leastOf (suc k) passed a asked P)
+pub least-right : (k : ℕ) (passed : Bool) (a : ℕ) (asked : Type 0) (P : ℕ → Type 0) → ((passed ≡ true) ↔ asked)
+    → (passed ≡ false → Least P a) → Right (leastOf (suc k) passed a asked P)
 least-right k passed a asked P exactly least =
     record {
       named = suc-ne-zero k;

@@ -12,13 +12,16 @@ use Rattle.yard.specs.Replay.{yardAt, passes, fullestPull, pullSize}
 use Rattle.yard.specs.Derived.{stepsNeeded, derivedCodes, derivedPlan}
 use Rattle.yard.specs.Demands.{Least, Within, InLimits, Listed, Given, CodesFormed, HasRoom, Sorts, Sortable, OverfullStep}
 use Rattle.yard.specs.Answers.{says, Ask, AllHold, FirstFails, countAsk, bufferAsk, limitAsk, roomAsk}
-use Rattle.yard.specs.Calls.{countAsks, listAsks, opening, deriveAsks, deriveTests, deriveAnswer, DeriveGiven, Derivable, Derives, checkOwn, checkAsks, checkTests, checkAnswer, GoodPlan, Checks, replayOwn, replayAsks, replayTests, replayAnswer, Replayable, Replays}
+use Rattle.yard.specs.Calls.{countAsks, listAsks, opening, deriveAsks, deriveTests, deriveAnswer, DeriveGiven, Derivable, Derives, checkOwn}
+use Rattle.yard.specs.Calls.{checkAsks, checkTests, checkAnswer, GoodPlan, Checks, replayOwn, replayAsks, replayTests, replayAnswer, Replayable}
+use Rattle.yard.specs.Calls.{Replays}
 use Rattle.yard.proofs.Verdict.{verdict-done}
 use Rattle.yard.proofs.Plans.{range-once}
 use Rattle.yard.proofs.Least.{least-steps}
 use Rattle.yard.proofs.DerivedPlan.{derived-sorts}
 use Rattle.yard.proofs.Asks.{Sound, holds-append, sound-append, accepted-exactly, refused-exactly, refused-at}
-use Rattle.yard.proofs.Rights.{count-right, length-right, buffer-right, train-right, sum-right, inbound-right, code-right, early-right, room-right, overfull-full, order-right, limit-right}
+use Rattle.yard.proofs.Rights.{count-right, length-right, buffer-right, train-right, sum-right, inbound-right, code-right, early-right}
+use Rattle.yard.proofs.Rights.{room-right, overfull-full, order-right, limit-right}
 
 -- ---- what the opening asks yields, by name
 
@@ -75,8 +78,10 @@ module _ (L : Limits) (n : Night) (h : ℕ) (counts others : List Ask) where
         let (listed, rest) = holds-append (listAsks n) others .0 more in
         (record { counts = night-counts-hold .0 counted; lists = lists-hold n .0 listed }, own, rest),
     λ (given, own, rest).
-        holds-append nightCounted (counts ++ (listAsks n ++ others)) .1
-        (night-counts-hold .1 (given .counts), holds-append counts (listAsks n ++ others) .1 (own, holds-append (listAsks n) others .1 (lists-hold n .1 (given .lists), rest))),
+        holds-append nightCounted (counts ++ (listAsks n ++ others)) .1 (
+          night-counts-hold .1 (given .counts),
+          holds-append counts (listAsks n ++ others) .1 (own, holds-append (listAsks n) others .1 (lists-hold n .1 (given .lists), rest)),
+        ),
   )
 
 -- ---- demands 1 and 2: check
@@ -172,7 +177,8 @@ module _ (L : Limits) (p : Plan) (stage trackSize placeSize : ℕ) where
       let exactly = accepted-exactly replay-done refl (replayAsks L p stage trackSize placeSize) replay-sound in
       (λ e. replay-holds .0 (exactly .0 e), λ r. exactly .1 (replay-holds .1 r))
 
-  pub replay-refuses-exactly : (k a b : ℕ) → 0 < k → (replayAnswer L p stage trackSize placeSize ≡ says k a b) ↔ FirstFails k a b (replayAsks L p stage trackSize placeSize)
+  pub replay-refuses-exactly : (k a b : ℕ) → 0 < k
+      → (replayAnswer L p stage trackSize placeSize ≡ says k a b) ↔ FirstFails k a b (replayAsks L p stage trackSize placeSize)
   unfolding replayAnswer
   replay-refuses-exactly k a b pos = refused-exactly replay-done refl k a b pos (replayAsks L p stage trackSize placeSize) replay-sound
 
@@ -238,17 +244,22 @@ module _ (L : Limits) (n : Night) (limit size : ℕ) where
   derive-refuses-exactly k a b pos = refused-exactly derive-done refl k a b pos (deriveAsks L n limit size) derive-sound
 
   -- a limit is refused exactly if no plan that builds the trains keeps to it, whatever its codes; A is the least limit that one keeps to
-  pub derive-limit-exactly : (a b : ℕ) → (deriveAnswer L n limit size ≡ says 5 a b) ↔ (DeriveGiven L n limit size × (Sortable n limit → ⊥) × Least (Sortable n) a × (b ≡ 0))
+  pub derive-limit-exactly : (a b : ℕ)
+      → (deriveAnswer L n limit size ≡ says 5 a b) ↔ (DeriveGiven L n limit size × (Sortable n limit → ⊥) × Least (Sortable n) a × (b ≡ 0))
   unfolding deriveAnswer
   derive-limit-exactly a b =
-      let exactly = refused-at derive-done refl first-asks (limitAsk n limit) (roomAsk (derivedPlan n) ∷ []) (omega arith) derive-sound (omega arith) (omega arith) a b in (
+      let exactly =
+      refused-at derive-done refl first-asks (limitAsk n limit) (roomAsk (derivedPlan n) ∷ []) (omega arith) derive-sound
+      (omega arith) (omega arith) a b in (
         λ e. let (front, none, told) = exactly .0 e in (first-hold .0 front, none, told .0, told .1),
         λ (given, none, least, zero-b). exactly .1 (first-hold .1 given, none, (least, zero-b)),
       )
 
   -- room is refused exactly if the derived plan's replay overfills a track, and only where the limit can be kept; A is the first
   -- step that does, B what it finds there
-  pub derive-room-exactly : (a b : ℕ) → (deriveAnswer L n limit size ≡ says 6 a b) ↔ (DeriveGiven L n limit size × Sortable n limit × Least (OverfullStep (derivedPlan n)) a × (b ≡ pullSize (derivedPlan n) a))
+  pub derive-room-exactly : (a b : ℕ)
+      → (deriveAnswer L n limit size ≡ says 6 a b) ↔
+      (DeriveGiven L n limit size × Sortable n limit × Least (OverfullStep (derivedPlan n)) a × (b ≡ pullSize (derivedPlan n) a))
   unfolding deriveAnswer
   derive-room-exactly a b =
       let before = first-asks ++ (limitAsk n limit ∷ []) in
@@ -263,7 +274,8 @@ module _ (L : Limits) (n : Night) (limit size : ℕ) where
       )
 
   -- where derive answers, it has derived that plan, and it reports its steps and the cars that rolled in, counted one by one
-  pub derive-least : deriveAnswer L n limit size .number ≡ 0 → LeastPlan n (derivedPlan n) × (deriveAnswer L n limit size ≡ says 0 (derivedPlan n .steps) (yardAt (derivedPlan n) (derivedPlan n .steps) .rolled))
+  pub derive-least : deriveAnswer L n limit size .number ≡ 0
+      → LeastPlan n (derivedPlan n) × (deriveAnswer L n limit size ≡ says 0 (derivedPlan n .steps) (yardAt (derivedPlan n) (derivedPlan n .steps) .rolled))
   unfolding deriveAnswer derivedPlan passes
   derive-least e = (
     derived-least L n limit (derive-accepts-exactly .0 e .given .given),

@@ -42,7 +42,8 @@ pub length-by-car : (g : ℕ → ℕ) (n : ℕ) → length (map g (cars n)) ≡ 
 length-by-car g n = length-map (cars n) g ∙ length-upFrom 1 n
 
 -- the numbers kept of those from a on pass, and rise
-pub kept-item : (p : ℕ → Bool) (a n q : ℕ) → q < length (keep p (upFrom a n)) → (p (getD (keep p (upFrom a n)) q 0) ≡ true) × (a ≤ getD (keep p (upFrom a n)) q 0) × (getD (keep p (upFrom a n)) q 0 < a + n)
+pub kept-item : (p : ℕ → Bool) (a n q : ℕ) → q < length (keep p (upFrom a n))
+    → (p (getD (keep p (upFrom a n)) q 0) ≡ true) × (a ≤ getD (keep p (upFrom a n)) q 0) × (getD (keep p (upFrom a n)) q 0 < a + n)
 kept-item p a n q m =
     let x : ℕ = getD (keep p (upFrom a n)) q 0 in
     let k = count-kept x p (upFrom a n) (omega (arith, count-at (keep p (upFrom a n)) q m)) in
@@ -111,10 +112,12 @@ module _ (n : Night) (f : Listed (n .lengths) (n .inbound)) where
         ap (λ (t : ℕ). breaks (n .inbound) (firstCar (n .lengths) t) (car - firstCar (n .lengths) t)) (r .2),
         breaks-mono (n .inbound) head d (car - head),
         ap (λ (k : ℕ). breaks (n .inbound) head k) e,
-        most-above (breaksIn (n .lengths) (n .inbound)) (upFrom 1 (length (n .lengths))) (suc (r .0)) (omega (arith, count-upFrom-in (suc (r .0)) 1 (length (n .lengths)) (omega arith) (omega (arith, r .1)))),
+        most-above (breaksIn (n .lengths) (n .inbound)) (upFrom 1 (length (n .lengths))) (suc (r .0))
+            (omega (arith, count-upFrom-in (suc (r .0)) 1 (length (n .lengths)) (omega arith) (omega (arith, r .1)))),
       )
 
-  pub before-pair : (j : ℕ) → 1 ≤ j → j < length (n .inbound) → pair (n .lengths) j ≡ true → breaksBefore (n .lengths) (n .inbound) (suc j) ≡ breaksBefore (n .lengths) (n .inbound) j + tally (broken (n .inbound) j)
+  pub before-pair : (j : ℕ) → 1 ≤ j → j < length (n .inbound) → pair (n .lengths) j ≡ true
+      → breaksBefore (n .lengths) (n .inbound) (suc j) ≡ breaksBefore (n .lengths) (n .inbound) j + tally (broken (n .inbound) j)
   before-pair j l m e =
       let r = train-cars (n .lengths) (n .inbound) f j (l, omega arith) in
       let head : ℕ = firstCar (n .lengths) (suc (r .0)) in
@@ -136,7 +139,8 @@ module _ (n : Night) (f : Listed (n .lengths) (n .inbound)) where
     number : ℕ → ℕ
     number car = breaksBefore (n .lengths) (n .inbound) car
 
-    pub derived-code : (car : ℕ) → Within 1 (length (n .inbound)) car → codeOf (derivedPlan n) car ≡ codeNumber (n .tracks) (stepsNeeded n) (breaksBefore (n .lengths) (n .inbound) car)
+    pub derived-code : (car : ℕ) → Within 1 (length (n .inbound)) car
+        → codeOf (derivedPlan n) car ≡ codeNumber (n .tracks) (stepsNeeded n) (breaksBefore (n .lengths) (n .inbound) car)
     unfolding derivedPlan derivedCodes
     derived-code car w = by-car (λ c. codeNumber (n .tracks) (stepsNeeded n) (breaksBefore (n .lengths) (n .inbound) c)) (length (n .inbound)) car w
 
@@ -157,7 +161,8 @@ module _ (n : Night) (f : Listed (n .lengths) (n .inbound)) where
           below =
               λ car w.
               let v : Within 1 (length (n .inbound)) car = (w .0, omega (arith, w .1, derived-length)) in
-              subst (λ (c : ℕ). c < 2 ^ stepsNeeded n) (sym (derived-code car v)) (codeNumber-usable (n .tracks) (stepsNeeded n) pos (number car) (number-fits car v) .1);
+              subst (λ (c : ℕ). c < 2 ^ stepsNeeded n) (sym (derived-code car v))
+              (codeNumber-usable (n .tracks) (stepsNeeded n) pos (number car) (number-fits car v) .1);
         }
 
     derived-never : NeverEarly (derivedPlan n)
@@ -167,9 +172,11 @@ module _ (n : Night) (f : Listed (n .lengths) (n .inbound)) where
         (λ car m.
         let w : Within 1 (length (n .inbound)) car = came-within (n .lengths) (n .inbound) f car m in
         usable-gaps (n .tracks) (stepsNeeded n) (codeOf (derivedPlan n) car) pos .0
-        (subst (λ (c : ℕ). usable (n .tracks) (stepsNeeded n) c ≡ true) (sym (derived-code car w)) (codeNumber-usable (n .tracks) (stepsNeeded n) pos (number car) (number-fits car w) .0)))
+        (subst (λ (c : ℕ). usable (n .tracks) (stepsNeeded n) c ≡ true) (sym (derived-code car w))
+        (codeNumber-usable (n .tracks) (stepsNeeded n) pos (number car) (number-fits car w) .0)))
 
-    derived-ruled : (j : ℕ) → 1 ≤ j → j < length (n .inbound) → pair (n .lengths) j ≡ true → ruled (codeOf (derivedPlan n) j) (codeOf (derivedPlan n) (suc j)) (broken (n .inbound) j) ≡ true
+    derived-ruled : (j : ℕ) → 1 ≤ j → j < length (n .inbound) → pair (n .lengths) j ≡ true
+        → ruled (codeOf (derivedPlan n) j) (codeOf (derivedPlan n) (suc j)) (broken (n .inbound) j) ≡ true
     unfolding number
     derived-ruled j l m e = go (broken (n .inbound) j) refl
       where

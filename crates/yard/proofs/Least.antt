@@ -58,9 +58,12 @@ module _ (p : Plan) (f : Listed (p .night .lengths) (p .night .inbound)) (pos : 
       (never-gaps p pos .0 (sorts .never) car (omega (arith, came-once (p .night .lengths) (p .night .inbound) f car w)))
 
   -- the breaks before a car are at most the usable codes below its own
-  breaks-below : (i d : ℕ) → i < length (p .night .lengths) → d < itemOf (p .night .lengths) (suc i) → breaks (p .night .inbound) (firstCar (p .night .lengths) (suc i)) d ≤ passing u (codeOf p (firstCar (p .night .lengths) (suc i) + d))
+  breaks-below : (i d : ℕ) → i < length (p .night .lengths) → d < itemOf (p .night .lengths) (suc i)
+      → breaks (p .night .inbound) (firstCar (p .night .lengths) (suc i)) d ≤ passing u (codeOf p (firstCar (p .night .lengths) (suc i) + d))
   breaks-below i zero m b = omega arith
-  breaks-below i (suc d) m b = go (broken inbound j) refl (ruled-of-builds p f (sorts .codes) (sorts .never) (sorts .builds) i j m (omega arith) (omega arith)) (breaks-below i d m (omega arith))
+  breaks-below i (suc d) m b =
+      go (broken inbound j) refl
+      (ruled-of-builds p f (sorts .codes) (sorts .never) (sorts .builds) i j m (omega arith) (omega arith)) (breaks-below i d m (omega arith))
     where
       inbound : List ℕ
       inbound = p .night .inbound
@@ -74,7 +77,8 @@ module _ (p : Plan) (f : Listed (p .night .lengths) (p .night .inbound)) (pos : 
       next : passing u (codeOf p (suc j)) ≡ passing u (codeOf p (head + suc d))
       next = ap (λ (c : ℕ). passing u (codeOf p c)) (sym (add-suc head d))
 
-      go : (brk : Bool) → broken inbound j ≡ brk → ruled (codeOf p j) (codeOf p (suc j)) brk ≡ true → breaks inbound head d ≤ passing u (codeOf p j) → breaks inbound head (suc d) ≤ passing u (codeOf p (head + suc d))
+      go : (brk : Bool) → broken inbound j ≡ brk → ruled (codeOf p j) (codeOf p (suc j)) brk ≡ true
+          → breaks inbound head d ≤ passing u (codeOf p j) → breaks inbound head (suc d) ≤ passing u (codeOf p (head + suc d))
       go true e rule le =
           omega (
             arith,

@@ -77,7 +77,8 @@ pub timing-most : (x : Float) → timing x ≡ true → sixteenths x ≤ 4096 * 
 timing-most nan t = absurd (false≢true t)
 timing-most (inf s) t = absurd (false≢true t)
 timing-most (fin true m e) t = absurd (false≢true t)
-timing-most (fin false m e) t = leb-true (sixteenths (fin false m e)) (4096 * 16) (and-right (eqb (m * up e * 16 % down e) 0) (leb (m * up e * 16 / down e) (4096 * 16)) t)
+timing-most (fin false m e) t =
+    leb-true (sixteenths (fin false m e)) (4096 * 16) (and-right (eqb (m * up e * 16 % down e) 0) (leb (m * up e * 16 / down e) (4096 * 16)) t)
 
 -- a timing has few enough sixteenths for the laws above
 few : {k : ℕ} → k ≤ 4096 * 16 → k < 2 ^ 53
@@ -170,7 +171,8 @@ module _ (L : Limits) (steps passes : ℕ) (t : Timings) where
       whole (done all) e = all
 
 -- ---- A price is exact, and prices compare as their sixteenths do, at any limits of up to 2^36 steps and passes.
-pub worth-small : (L : Limits) → L .steps + L .passes ≤ 2 ^ 36 → (steps passes : ℕ) (t : Timings) → AllHold L steps passes t → priceWorth steps passes t < 2 ^ 53
+pub worth-small : (L : Limits) → L .steps + L .passes ≤ 2 ^ 36 → (steps passes : ℕ) (t : Timings) → AllHold L steps passes t
+    → priceWorth steps passes t < 2 ^ 53
 worth-small L small steps passes t all =
     omega (arith, mul-le-mul-left steps (timing-most (t .pull) (all .pullIn)), mul-le-mul-left passes (timing-most (t .push) (all .pushIn)))
 
@@ -203,7 +205,8 @@ module _ (L : Limits) (small : L .steps + L .passes ≤ 2 ^ 36) where
   pub price-sixteen-times : (n : PricedNight L) → mul binary64 (price n) sixteen ≡ ofInt binary64 (pos (worth n))
   price-sixteen-times n = rw (price-seconds n) (sixteen-times (worth n) (small-worth n))
 
-  prices-as : {doubles : Float → Float → Bool} {numbers : ℕ → ℕ → Bool} → Compares doubles numbers → (n o : PricedNight L) → doubles (price n) (price o) ≡ numbers (worth n) (worth o)
+  prices-as : {doubles : Float → Float → Bool} {numbers : ℕ → ℕ → Bool} → Compares doubles numbers → (n o : PricedNight L)
+      → doubles (price n) (price o) ≡ numbers (worth n) (worth o)
   prices-as compares n o = compares (price n) (price o) (worth n) (worth o) 16 (lit< tt) (price-value n) (price-value o)
 
   pub prices-lt : (n o : PricedNight L) → lt (price n) (price o) ≡ ltb (worth n) (worth o)

@@ -15,8 +15,10 @@ use Rattle.yard.specs.Words.{count, listed, place, first}
 use Rattle.yard.specs.Night.{Night, Plan, sum, itemOf, pair, broken}
 use Rattle.yard.specs.Replay.{bit, codeOf, pulled, pullSize, early, lowestEarly, firstEarly, firstOverfull, inOrder}
 use Rattle.yard.specs.Derived.{stepsNeeded, derivedCodes, derivedPlan}
-use Rattle.yard.specs.Demands.{Least, Within, NoneEmpty, EachOnce, CodesBelow, NeverEarly, HasRoom, BuildsTrains, Listed, CodesFormed, Sortable, EmptyTrain, WideCode, MetAt, BadPlace, TakesEarly, EarlyStep, OverfullStep, Ruled, BreaksRule}
-use Rattle.yard.specs.Answers.{plain, countAsk, emptyTrain, trainAsk, sumAsk, badPlace, firstBad, inboundAsk, lengthAsk, bufferAsk, limitAsk, roomAsk, wideCode, codeAsk, codeTest, earlyAsk, ruled, unruled, firstUnruled, orderAsk}
+use Rattle.yard.specs.Demands.{Least, Within, NoneEmpty, EachOnce, CodesBelow, NeverEarly, HasRoom, BuildsTrains, Listed, CodesFormed, Sortable}
+use Rattle.yard.specs.Demands.{EmptyTrain, WideCode, MetAt, BadPlace, TakesEarly, EarlyStep, OverfullStep, Ruled, BreaksRule}
+use Rattle.yard.specs.Answers.{plain, countAsk, emptyTrain, trainAsk, sumAsk, badPlace, firstBad, inboundAsk, lengthAsk, bufferAsk, limitAsk}
+use Rattle.yard.specs.Answers.{roomAsk, wideCode, codeAsk, codeTest, earlyAsk, ruled, unruled, firstUnruled, orderAsk}
 use Rattle.yard.proofs.Bools.{split, clash, and-left, and-right, and-both, not-true, not-so}
 use Rattle.yard.proofs.First.{first-least, first-hit}
 use Rattle.yard.proofs.Order.{place-among}
@@ -121,7 +123,8 @@ module _ (inbound : List ℕ) where
       let range = leb 1 x && leb x n in
       let before : suc i - 1 ≡ i = omega arith in
       let again = met i (w .1) in
-      let seen : listed x (take (suc i - 1) inbound) ≡ listed (getD inbound i 0) (take i inbound) = ap (λ (l : ℕ). listed (getD inbound l 0) (take l inbound)) before in (
+      let seen : listed x (take (suc i - 1) inbound) ≡ listed (getD inbound i 0) (take i inbound) =
+      ap (λ (l : ℕ). listed (getD inbound l 0) (take l inbound)) before in (
         λ e. (
           w,
           ⊎-elim
@@ -131,7 +134,8 @@ module _ (inbound : List ℕ) where
         ),
         λ h.
             ⊎-elim
-            (λ out. left-or (listed x (take (suc i - 1) inbound)) (ap not (not-so range (λ r. out (leb-true 1 x (and-left (leb 1 x) (leb x n) r), leb-true x n (and-right (leb 1 x) (leb x n) r))))))
+            (λ out. left-or (listed x (take (suc i - 1) inbound))
+            (ap not (not-so range (λ r. out (leb-true 1 x (and-left (leb 1 x) (leb x n) r), leb-true x n (and-right (leb 1 x) (leb x n) r))))))
             (λ twice. right-or (not range) (seen ∙ again .1 twice))
             (h .1),
       )
@@ -231,7 +235,8 @@ module _ (p : Plan) (within : InRange (p .night .inbound)) where
         tells = λ e car k. told e car k;
       }
     where
-      told : leb (p .steps) (firstEarly p) ≡ false → (car k : ℕ) → (Least (EarlyStep p) k × Least (TakesEarly p k) car) ↔ ((car ≡ lowestEarly p (firstEarly p)) × (k ≡ firstEarly p))
+      told : leb (p .steps) (firstEarly p) ≡ false → (car k : ℕ)
+          → (Least (EarlyStep p) k × Least (TakesEarly p k) car) ↔ ((car ≡ lowestEarly p (firstEarly p)) × (k ≡ firstEarly p))
       told e car k =
           let step = first-early e in
           let its = lowest (firstEarly p) (some-early (firstEarly p) (step .holds .1 .0) (step .holds .1 .1)) in
@@ -310,10 +315,19 @@ module _ (p : Plan) where
         lowest-car : inOrder p ≡ false → Least (BreaksRule p) (suc (firstUnruled p))
         lowest-car e =
             let found : firstUnruled p < 1 + (n - 1) = omega (arith, some, leb-false n (firstUnruled p) (sym (order-ruled p f formed never some) ∙ e)) in
-            let low = first-is-least (unruled p) (n - 1) 1 (λ j. Within 1 (n - 1) j × (unruled p j ≡ true)) (λ j l m u. ((l, omega (arith, m)), u)) (λ j h. (h .0 .0, omega (arith, h .0 .1), h .1)) found in
+            let low =
+            first-is-least (unruled p) (n - 1) 1 (λ j. Within 1 (n - 1) j × (unruled p j ≡ true))
+            (λ j l m u. ((l, omega (arith, m)), u)) (λ j h. (h .0 .0, omega (arith, h .0 .1), h .1)) found in
             let breaks = unruled-exactly (firstUnruled p) .0 (low .holds .1) in
             record {
-              holds = (firstUnruled p, refl, (low .holds .0 .0, omega (arith, low .holds .0 .1)), (omega arith, omega (arith, low .holds .0 .1, some)), breaks .0, breaks .1);
+              holds = (
+                firstUnruled p,
+                refl,
+                (low .holds .0 .0, omega (arith, low .holds .0 .1)),
+                (omega arith, omega (arith, low .holds .0 .1, some)),
+                breaks .0,
+                breaks .1,
+              );
               least =
                   λ c h.
                   omega (arith, h .1, low .least (h .0) ((h .2 .0, omega (arith, h .1, h .3 .1)), unruled-exactly (h .0) .1 (h .4, h .5)));

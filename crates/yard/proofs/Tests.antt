@@ -45,7 +45,14 @@ counts-passed L n m W C h =
     let tracks = count-passed 3 1 (L .tracks) W in
     let room = count-passed 4 1 (L .room) C in
     let steps = count-passed 5 0 (L .steps) h in (
-      λ t. record { cars = cars .0 (t .0); trains = trains .0 (t .1 .0); tracks = tracks .0 (t .1 .1 .0); room = room .0 (t .1 .1 .1 .0); steps = steps .0 (t .1 .1 .1 .1 .0) },
+      λ t. record {
+        cars = cars .0 (t .0);
+        trains = trains .0 (t .1 .0);
+        tracks = tracks .0 (t .1 .1 .0);
+        room = room .0
+            (t .1 .1 .1 .0);
+        steps = steps .0 (t .1 .1 .1 .1 .0);
+      },
       λ r. (cars .1 (r .cars), (trains .1 (r .trains), (tracks .1 (r .tracks), (room .1 (r .room), (steps .1 (r .steps), tt))))),
     )
 
@@ -97,7 +104,8 @@ inbound-within inbound e =
     items-below inbound (omega arith)
     (λ j l m.
     let car = itemOf inbound j in
-    let range : (leb 1 car && leb car n) ≡ true = not-false (leb 1 car && leb car n) (neither (not (leb 1 car && leb car n)) (listed car (take (j - 1) inbound)) (none j l m)) in
+    let range : (leb 1 car && leb car n) ≡ true =
+    not-false (leb 1 car && leb car n) (neither (not (leb 1 car && leb car n)) (listed car (take (j - 1) inbound)) (none j l m)) in
     omega (arith, leb-true car n (and-right (leb 1 car) (leb car n) range)))
 
 -- no train is longer than all together

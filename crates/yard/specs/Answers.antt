@@ -13,7 +13,8 @@ use Rattle.yard.specs.Words.{listed, first}
 use Rattle.yard.specs.Night.{Night, Plan, sum, itemOf, pair, broken}
 use Rattle.yard.specs.Replay.{codeOf, pullSize, lowestEarly, firstEarly, firstOverfull, inOrder}
 use Rattle.yard.specs.Derived.{stepsNeeded}
-use Rattle.yard.specs.Demands.{Least, Within, NoneEmpty, EachOnce, CodesBelow, NeverEarly, HasRoom, BuildsTrains, Sortable, EmptyTrain, WideCode, BadPlace, TakesEarly, EarlyStep, OverfullStep, BreaksRule}
+use Rattle.yard.specs.Demands.{Least, Within, NoneEmpty, EachOnce, CodesBelow, NeverEarly, HasRoom, BuildsTrains, Sortable, EmptyTrain}
+use Rattle.yard.specs.Demands.{WideCode, BadPlace, TakesEarly, EarlyStep, OverfullStep, BreaksRule}
 
 -- a number and its two details
 abbrev pub says : ℕ → ℕ → ℕ → Answer

@@ -10,7 +10,8 @@ use Rattle.yard.specs.Night.{Night, Plan, cars}
 use Rattle.yard.specs.Replay.{passes, fullestPull, trackOf, placeOf}
 use Rattle.yard.specs.Derived.{stepsNeeded, derivedCodes, derivedPlan}
 use Rattle.yard.specs.Demands.{Within, Given, CodesBelow, NeverEarly, HasRoom, BuildsTrains, Sortable}
-use Rattle.yard.specs.Answers.{says, verdict, written, Ask, answers, countAsk, trainAsk, sumAsk, inboundAsk, lengthAsk, bufferAsk, limitAsk, roomAsk, codeAsk, earlyAsk, orderAsk}
+use Rattle.yard.specs.Answers.{says, verdict, written, Ask, answers, countAsk, trainAsk, sumAsk, inboundAsk, lengthAsk, bufferAsk, limitAsk}
+use Rattle.yard.specs.Answers.{roomAsk, codeAsk, earlyAsk, orderAsk}
 
 -- 1 for the cars, trains, tracks, room and steps (or step limit) of a call; 2 and 3 for its lists
 abbrev pub countAsks : Limits → ℕ → ℕ → ℕ → ℕ → ℕ → List Ask

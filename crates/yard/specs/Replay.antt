@@ -1,4 +1,5 @@
--- The replay on physical tracks: cars roll in one by one and are counted, step k takes everything that stands on track k mod W, and what it took rolls in again.
+-- The replay on physical tracks: cars roll in one by one and are counted, step k takes everything that stands on track k mod W,
+-- and what it took rolls in again.
 use Prim.Native.Nat.{ℕ, zero, suc, _+_, _-_, _/_, _%_, _^_}
 use mathlib.Core.Bool.{Bool, cond, not, _&&_}
 use mathlib.Core.List.{List, [], _∷_, _++_}
