@@ -2,18 +2,18 @@
 use Prim.Native.Nat.{ℕ, _≤_, _<_}
 use mathlib.Core.Path.{_≡_, sym, ap, ap₂, _∙_, subst}
 use mathlib.Core.Logic.{_↔_}
-use mathlib.Core.List.{List, _++_}
+use mathlib.Core.List.{List}
 use native.Mathlib.Nat.{le-refl, le-antisymm}
 use lib.ListN.{length, take, drop}
-use lib.Seq.{take-at, drop-at}
 use Rattle.yard.specs.declared.Answer.{Answer}
 use Rattle.yard.specs.Limits.{limits}
 use Rattle.yard.specs.Night.{Night, Plan}
 use Rattle.yard.specs.Replay.{yardAt, pullSize}
 use Rattle.yard.specs.Derived.{derivedCodes, derivedPlan}
 use Rattle.yard.specs.Demands.{Least, Given, HasRoom, Sorts, Sortable, OverfullStep}
-use Rattle.yard.specs.Answers.{says, FirstFails}
+use Rattle.yard.specs.Answers.{says, onto, FirstFails}
 use Rattle.yard.specs.Calls.{deriveAsks, deriveAnswer, DeriveGiven, Derives}
+use Rattle.yard.proofs.Fronts.{front-taken, front-left}
 use Rattle.yard.proofs.Verdict.{written-accepted, written-refused}
 use Rattle.yard.proofs.Demands.{LeastPlan, derive-accepts-exactly, derive-refuses-exactly, derive-least, derived-least, derive-limit-exactly, derive-room-exactly}
 
@@ -45,10 +45,7 @@ module _ (n : Night) (limit : ℕ) (before : List ℕ) (r : Answer) (after : Lis
         room = subst HasRoom (sym plan) (derive-accepts-exactly limits n limit (length before) .0 accepted .room);
         least = λ h codes s. subst (λ (k : ℕ). k ≤ h) (sym steps) (least .least h codes s);
         passes = ap (λ (a : Answer). a .b) answered ∙ ap₂ (λ (p : Plan) (s : ℕ). yardAt p s .rolled) (sym plan) (sym steps);
-        rest =
-            ap (drop (length (n .inbound))) written
-            ∙ drop-at (derivedCodes n) (drop (length (derivedCodes n)) before) (length (n .inbound)) size
-            ∙ ap (λ (k : ℕ). drop k before) size;
+        rest = front-left (derivedCodes n) before written size;
       }
     where
       accepted : deriveAnswer limits n limit (length before) .number ≡ 0
@@ -69,13 +66,11 @@ module _ (n : Night) (limit : ℕ) (before : List ℕ) (r : Answer) (after : Lis
       size : length (derivedCodes n) ≡ length (n .inbound)
       size = least .sorts .codes .each
 
-      written : after ≡ derivedCodes n ++ drop (length (derivedCodes n)) before
+      written : after ≡ onto (derivedCodes n) before
       written = promise .codes ∙ written-accepted (deriveAnswer limits n limit (length before)) (derivedCodes n) before accepted
 
       plan : told n r after ≡ derivedPlan n
-      plan =
-          ap₂ (λ (s : ℕ) (codes : List ℕ). record { night = n; steps = s; codes = codes }) steps
-          (ap (take (length (n .inbound))) written ∙ take-at (derivedCodes n) (drop (length (derivedCodes n)) before) (length (n .inbound)) size)
+      plan = ap₂ (λ (s : ℕ) (codes : List ℕ). record { night = n; steps = s; codes = codes }) steps (front-taken (derivedCodes n) before written size)
 
   -- it refuses with k, A and B exactly if the first ask that does not hold has number k, and tells A and B
   pub call-refuses : (k a b : ℕ) → 0 < k → (r ≡ says k a b) ↔ FirstFails k a b (deriveAsks limits n limit (length before))

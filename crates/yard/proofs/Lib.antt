@@ -12,6 +12,7 @@ pub mod Sorting
 pub mod Standing
 pub mod Counting
 pub mod Trains
+pub mod Fronts
 pub mod Verdict
 pub mod Asks
 pub mod Bits

@@ -8,7 +8,7 @@ use lib.Dec.{eqb}
 use lib.ListN.{length, drop}
 use borrow.Author.Tests.{eqb-true, eqb-false, eq-eqb, ne-eqb}
 use Rattle.yard.specs.declared.Answer.{Answer}
-use Rattle.yard.specs.Answers.{says, test, verdict, written}
+use Rattle.yard.specs.Answers.{says, test, verdict, onto, written}
 
 -- every test of a list is passed
 abbrev pub Passed : List Answer → Type 0
@@ -66,11 +66,11 @@ pub verdict-done : (ts : List Answer) (done : Answer) → verdict ts done .numbe
 verdict-done ts done e = verdict-passed ts done (verdict-passes ts done .0 e .0)
 
 -- a lent buffer after an accepted call, and after a refused one
-pub written-accepted : (r : Answer) (items buffer : List ℕ) → r .number ≡ 0 → written r items buffer ≡ items ++ drop (length items) buffer
-written-accepted r items buffer e = ap (λ b. cond b (items ++ drop (length items) buffer) buffer) (eq-eqb (r .number) 0 e)
+pub written-accepted : (r : Answer) (items buffer : List ℕ) → r .number ≡ 0 → written r items buffer ≡ onto items buffer
+written-accepted r items buffer e = ap (λ b. cond b (onto items buffer) buffer) (eq-eqb (r .number) 0 e)
 
 pub written-refused : (r : Answer) (items buffer : List ℕ) → (r .number ≡ 0 → ⊥) → written r items buffer ≡ buffer
-written-refused r items buffer h = ap (λ b. cond b (items ++ drop (length items) buffer) buffer) (ne-eqb (r .number) 0 h)
+written-refused r items buffer h = ap (λ b. cond b (onto items buffer) buffer) (ne-eqb (r .number) 0 h)
 
 -- ---- a call that goes from test to test
 

@@ -29,9 +29,13 @@ verdict (t ∷ tests) done =
     let later = verdict tests done in
     cond (eqb (t .number) 0) later t
 
--- a lent buffer after the call: a refused call writes nothing, an accepted one these items at the front, and no others
+-- these items at the front of a buffer, and no others changed
+abbrev pub onto : List ℕ → List ℕ → List ℕ
+onto items buffer = items ++ drop (length items) buffer
+
+-- a lent buffer after the call: a refused call writes nothing, an accepted one its items at the front
 abbrev pub written : Answer → List ℕ → List ℕ → List ℕ
-written r items buffer = cond (eqb (r .number) 0) (items ++ drop (length items) buffer) buffer
+written r items buffer = cond (eqb (r .number) 0) (onto items buffer) buffer
 
 -- An ask: the number of its refusal, whether it is passed, A and B where it is not; what it asks, and what A and B then mean, in
 -- plain words.
