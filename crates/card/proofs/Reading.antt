@@ -12,7 +12,7 @@ use Rattle.yard.specs.declared.CardAnswer.{CardAnswer}
 use Rattle.yard.specs.Limits.{limits}
 use Rattle.yard.specs.Night.{sum}
 use Rattle.yard.specs.Answers.{says, test, verdict, written}
-use Rattle.yard.specs.Card.{widths, unpacked, bitsOf, cardLength, headField, cardPlan, rightLength, endsRight, readerSays, readerVerdict, readerAnswer, Reads}
+use Rattle.yard.specs.Card.{Bytes, widths, unpacked, bitsOf, cardLength, headField, cardPlan, rightLength, endsRight, readerSays, readerVerdict, readerAnswer, Reads}
 use Rattle.yard.proofs.Verdict.{verdict-append, verdict-passes, verdict-nested, stops-all, goes-on-all, written-accepted, written-refused}
 use Rattle.yard.specs.Demands.{InLimits}
 use Rattle.yard.proofs.Tests.{counts-passed}
@@ -135,6 +135,7 @@ head-short size h e =
 -- The call: with a head and a verdict in hand, the buffers after it are as they were, or hold the card's lists.
 module _
     (bytes l i c : List ℕ)
+    (given : Bytes bytes)
     {v : Answer}
     (judged : v ≡ readerVerdict limits bytes (length l) (length i) (length c))
   where
@@ -144,6 +145,7 @@ module _
         let w = readerVerdict limits bytes (length l) (length i) (length c) in
         let refused : w .number ≡ 0 → ⊥ = λ e. fails (ap (λ r. r .number) judged ∙ e) in
         record {
+          given = given;
           answer = told ∙ rw (ne-eqb (w .number) 0 refused) (ap (λ v. readerSays v 0 0 0 0 0) judged);
           lengths = sym (written-refused w (cardPlan bytes .night .lengths) l refused);
           inbound = sym (written-refused w (cardPlan bytes .night .inbound) i refused);
@@ -183,6 +185,7 @@ module _
       reads-accepted told =
           let w = readerVerdict limits bytes (length l) (length i) (length c) in
           record {
+            given = given;
             answer =
                 told
                 ∙ rw (eq-eqb (w .number) 0 accepted)

@@ -1,5 +1,5 @@
 -- The night card: one list of field widths, from which writer and reader are both read.
-use Prim.Native.Nat.{ℕ, zero, suc, _+_, _*_, _/_, _%_, _^_, _≤_}
+use Prim.Native.Nat.{ℕ, zero, suc, _+_, _*_, _/_, _%_, _^_, _≤_, _<_}
 use mathlib.Core.Path.{_≡_}
 use mathlib.Core.Bool.{Bool, true, cond, _&&_}
 use mathlib.Core.List.{List, [], _∷_, _++_}
@@ -13,6 +13,10 @@ use Rattle.yard.specs.Night.{Night, Plan, sum}
 use Rattle.yard.specs.Demands.{InLimits, Listed, Given, CodesBelow}
 use Rattle.yard.specs.Answers.{says, verdict, written, Ask, answers, plain, lengthAsk, bufferAsk, codeAsk}
 use Rattle.yard.specs.Calls.{countAsks, listAsks, opening}
+
+-- a list of bytes, as every slice of bytes is
+abbrev pub Bytes : List ℕ → Type 0
+Bytes l = (i : ℕ) → getD l i 0 < 256
 
 -- The format: edition, h, W, C, n and m; m lengths and n inbound numbers; n codes of h bits.
 abbrev pub headWidths : List ℕ
@@ -175,8 +179,9 @@ readerAnswer L bytes lengthsSize inboundSize codesSize =
     (readerSays v (headField bytes 1) (headField bytes 2) (headField bytes 3) (headField bytes 4) (headField bytes 5))
     (readerSays v 0 0 0 0 0)
 
--- what the reader promises
+-- what the reader promises; that it was given bytes stands with it, so that what follows from a promise needs no other premise
 pub record Reads (bytes lengths₀ inbound₀ codes₀ : List ℕ) (r : CardAnswer) (lengths₁ inbound₁ codes₁ : List ℕ) : Type 0 where
+  pub given : Bytes bytes
   pub answer : r ≡ readerAnswer limits bytes (length lengths₀) (length inbound₀) (length codes₀)
   pub lengths : lengths₁ ≡ written (readerVerdict limits bytes (length lengths₀) (length inbound₀) (length codes₀)) (cardPlan bytes .night .lengths) lengths₀
   pub inbound : inbound₁ ≡ written (readerVerdict limits bytes (length lengths₀) (length inbound₀) (length codes₀)) (cardPlan bytes .night .inbound) inbound₀
