@@ -5,3 +5,4 @@ pub mod Listing
 pub mod Standing
 pub mod Programs
 pub mod Whole
+pub mod Outcome

@@ -6,7 +6,7 @@ use mathlib.Core.List.{List, _++_}
 use native.Mathlib.Nat.{sub-zero, le-refl, add-sub-of-le}
 use native.Mathlib.Omega.{arith}
 use lib.ListN.{length, take, drop, length-map, length-append, length-drop}
-use lib.Seq.{take-append-seam, take-all}
+use lib.Seq.{take-append-seam, drop-append-seam, take-all}
 use borrow.Author.Tests.{eq-eqb, ne-eqb}
 use Rattle.yard.specs.declared.Answer.{Answer}
 use Rattle.yard.specs.declared.CardAnswer.{CardAnswer}
@@ -239,4 +239,5 @@ module _ (p : Plan) {before after : List ℕ} {r : Answer} (writes : Writes p be
         size = long;
         within = omega (arith, size, long, room);
         text = ap₂ take size bytes ∙ take-append-seam (card p) (drop (length (card p)) before) ∙ sym (take-all (length before) (card p) room);
+        rest = ap₂ drop size bytes ∙ drop-append-seam (card p) (drop (length (card p)) before) ∙ ap (λ k. drop k before) (sym size);
       })
