@@ -1,0 +1,87 @@
+-- What an acceptance by check or derive yields. This page alone takes yard's lists of reasons apart.
+use Prim.Native.Nat.{ℕ, _≤_, _<_}
+use mathlib.Core.Path.{_≡_, ap, _∙_}
+use mathlib.Core.Bool.{Bool, false}
+use mathlib.Core.List.{[], _∷_}
+use native.Mathlib.Nat.{le-refl, le-trans}
+use native.Mathlib.Omega.{arith}
+use lib.Dec.{leb}
+use lib.ListN.{length, take}
+use borrow.Author.Tests.{lt-leb}
+use Rattle.yard.specs.Limits.{limits}
+use Rattle.yard.specs.Night.{Night, Plan}
+use Rattle.yard.specs.Derived.{derivedPlan}
+use Rattle.yard.specs.Answers.{says, listTest}
+use Rattle.yard.specs.Calls.{checkAnswer, replayAnswer, deriveAnswer}
+use Rattle.yard.specs.Card.{card, writerTests, writerAnswer}
+use Rattle.yard.specs.Demands.{Within, Listed, BuildsTrains, AllHold, checkReasons, replayReasons, deriveReasons, writerReasons}
+use Rattle.yard.proofs.Verdict.{verdict-passes, verdict-first, passed-append}
+use Rattle.yard.proofs.Demands.{check-accepts-exactly, replay-accepts-exactly, derive-accepts-exactly, derive-least}
+use Rattle.yard.proofs.CardDemands.{writer-accepts-exactly}
+use Rattle.yard.proofs.CardCalls.{written-longest}
+
+-- what a checked plan is known to be
+pub record Good (p : Plan) : Type 0 where
+  pub cars : length (p .night .inbound) ≤ 512
+  pub trains : length (p .night .lengths) ≤ 64
+  pub tracks : Within 1 8 (p .night .tracks)
+  pub listed : Listed (p .night .lengths) (p .night .inbound)
+  pub builds : BuildsTrains p
+
+module _ (p : Plan) where
+  good-of : AllHold (checkReasons limits p) → Good p
+  good-of (cars, (trains, (tracks, (room, (steps, (nonempty, (adds, (once, (coded, (below, (never, (roomy, (builds, _))))))))))))) =
+      record { cars = cars .1; trains = trains .1; tracks = tracks; listed = record { nonempty = nonempty; adds = adds; once = once }; builds = builds }
+
+  replays-of : (trackSize placeSize : ℕ)
+      → length (p .night .inbound) ≤ trackSize
+      → length (p .night .inbound) ≤ placeSize
+      → AllHold (checkReasons limits p)
+      → AllHold (replayReasons limits p (p .steps) trackSize placeSize)
+  replays-of trackSize placeSize a b (cars, (trains, (tracks, (room, (steps, (nonempty, (adds, (once, (coded, (below, (never, (roomy, (builds, _))))))))))))) =
+      (cars, (trains, (tracks, (room, (steps, ((omega arith, le-refl (p .steps)), (nonempty, (adds, (once, (coded, (a, (b, (below, (never, (roomy, tt)))))))))))))))
+
+  pub checked-good : checkAnswer limits p .number ≡ 0 → Good p
+  checked-good e = good-of (check-accepts-exactly limits p .0 e)
+
+  -- its replay to the last stage is accepted too
+  pub checked-replays : checkAnswer limits p .number ≡ 0
+      → (trackSize placeSize : ℕ)
+      → length (p .night .inbound) ≤ trackSize
+      → length (p .night .inbound) ≤ placeSize
+      → replayAnswer limits p (p .steps) trackSize placeSize .number ≡ 0
+  checked-replays e trackSize placeSize a b =
+      replay-accepts-exactly limits p (p .steps) trackSize placeSize .1 (replays-of trackSize placeSize a b (check-accepts-exactly limits p .0 e))
+
+module _ (n : Night) (derived : deriveAnswer limits n 8 512 .number ≡ 0) where
+  writes-of : (size : ℕ) → length (card (derivedPlan n)) ≤ size → AllHold (deriveReasons limits n 8 512) → AllHold (writerReasons limits (derivedPlan n) size)
+  unfolding derivedPlan
+  writes-of size fits (cars, (trains, (tracks, (room, (limit, (nonempty, (adds, (once, (coded, (sortable, _)))))))))) =
+      let least = derive-least limits n 8 512 derived in
+      let codes = least .0 .codes in
+      let few = le-trans (least .1 (sortable .steps) (sortable .codes) (sortable .sorts)) (sortable .within) in
+      (cars, (trains, (tracks, (room, ((omega arith, few), (nonempty, (adds, (once, (codes .each, (codes .below, (fits, tt)))))))))))
+
+  -- the writer accepts the derived plan where the buffer holds its card, refuses it by 4, A 6, where not, and the card is short
+  pub derived-writes : (size : ℕ) → length (card (derivedPlan n)) ≤ size → writerAnswer limits (derivedPlan n) size .number ≡ 0
+  derived-writes size fits =
+      writer-accepts-exactly limits (derivedPlan n) size .1 (writes-of size fits (derive-accepts-exactly limits n 8 512 .0 derived))
+
+  pub derived-longest : length (card (derivedPlan n)) ≤ 1237
+  derived-longest =
+      let size = length (card (derivedPlan n)) in
+      written-longest (derivedPlan n) size (derived-writes size (le-refl size))
+
+  pub derived-no-room : (size : ℕ) → size < length (card (derivedPlan n)) → writerAnswer limits (derivedPlan n) size ≡ says 4 6 0
+  unfolding writerAnswer
+  derived-no-room size short =
+      let p = derivedPlan n in
+      let long = length (card p) in
+      let others = take 10 (writerTests limits p size) in
+      let done = says 0 long 0 in
+      let all = verdict-passes (writerTests limits p long) done .0 (derived-writes long (le-refl long)) .0 in
+      verdict-first others (listTest 6 (leb long size)) [] done (passed-append others (listTest 6 (leb long long) ∷ []) .0 all .0) (refused (lt-leb long size short))
+      ∙ ap (listTest 6) (lt-leb long size short)
+    where
+      refused : {b : Bool} → b ≡ false → listTest 6 b .number ≡ 0 → ⊥
+      refused {b} e q = omega (arith, ap (λ t. listTest 6 t .number) e, q)
