@@ -116,12 +116,12 @@ F-above (suc W) (suc h) pos = omega (arith, F-above (suc W) h pos, a-pos W h)
 -- ---- the gap rule with a step more
 
 module _ (W : ℕ) (pos : 0 < W) where
-  pub gaps-grow : (h x : ℕ) → x < 2 ^ h → Gaps W (suc h) x ↔ Gaps W h x
-  gaps-grow h x m = (less, more)
-    where
-      less : Gaps W (suc h) x → Gaps W h x
-      less g = record { lowest = λ l b. g .lowest l (omega arith); neighbours = λ k l b c. g .neighbours k l b (omega arith) }
+  pub gaps-less : (h x : ℕ) → Gaps W (suc h) x → Gaps W h x
+  gaps-less h x g = record { lowest = λ l b. g .lowest l (omega arith); neighbours = λ k l b c. g .neighbours k l b (omega arith) }
 
+  pub gaps-grow : (h x : ℕ) → x < 2 ^ h → Gaps W (suc h) x ↔ Gaps W h x
+  gaps-grow h x m = (gaps-less h x, more)
+    where
       within : (l : ℕ) → l < suc h → bit l x ≡ true → l < h
       within l b set = ⊎-elim (λ e. clash set (ap (λ (k : ℕ). bit k x) e ∙ bit-above h x m)) (λ c. c) (below-suc b)
 

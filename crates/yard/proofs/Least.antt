@@ -19,8 +19,8 @@ use Rattle.yard.specs.Demands.{Within, Listed, CodesFormed, NeverEarly, 
 use Rattle.yard.proofs.Bools.{split, clash, and-left, and-right, not-so, not-true}
 use Rattle.yard.proofs.Numbers.{le-or-lt}
 use Rattle.yard.proofs.First.{first-from, first-le, first-hit, first-least}
-use Rattle.yard.proofs.Lists.{count-kept, count-upFrom-in, upFrom-bounds, length-upFrom}
-use Rattle.yard.proofs.Codes.{total-last}
+use Rattle.yard.proofs.Lists.{total-small, tally-small, count-kept, count-upFrom-in, upFrom-bounds, length-upFrom}
+use Rattle.yard.proofs.Codes.{total-next}
 use Rattle.yard.proofs.Counting.{passing, total-split, length-passing, F-counts, F-above}
 use Rattle.yard.proofs.Trains.{firstCar-suc, most-above, most-reached, breaks-suc, breaksBefore-train}
 use Rattle.yard.proofs.Formed.{count-at}
@@ -35,7 +35,16 @@ passing-mono p m n l =
     omega (arith, ap (λ (k : ℕ). passing p k) e, total-split (λ x. tally (p x)) 0 m (n - m))
 
 pub passing-suc : (p : ℕ → Bool) (x : ℕ) → p x ≡ true → passing p (suc x) ≡ suc (passing p x)
-passing-suc p x e = omega (arith, total-last (λ x. tally (p x)) 0 x, ap (λ (k : ℕ). tally (p k)) (zero-add x), ap tally e)
+passing-suc p x e = omega (arith, total-next (λ x. tally (p x)) x, ap tally e)
+
+-- of d numbers more at most d pass, and of n numbers at most n
+pub passing-more : (p : ℕ → Bool) (n d : ℕ) → passing p (n + d) ≤ passing p n + d
+passing-more p n d =
+    let f : ℕ → ℕ = λ x. tally (p x) in
+    omega (arith, total-split f 0 n d, total-small f (λ x. tally-small (p x)) (upFrom (0 + n) d), length-upFrom (0 + n) d)
+
+pub passing-most : (p : ℕ → Bool) (n : ℕ) → passing p n ≤ n
+passing-most p n = omega (arith, passing-more p 0 n, ap (λ (k : ℕ). passing p k) (zero-add n))
 
 pub usable-count : (W h : ℕ) → 0 < W → passing (usable W h) (2 ^ h) ≡ F W h
 usable-count W h pos = F-counts W pos (usable W) (λ h x. usable-gaps W h x pos) h

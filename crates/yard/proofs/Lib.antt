@@ -24,6 +24,7 @@ pub mod Plans
 pub mod Building
 pub mod Least
 pub mod DerivedPlan
+pub mod PullOuts
 pub mod Rights
 pub mod Demands
 pub mod CardDemands

@@ -31,6 +31,14 @@ pub total-length : (l : List ℕ) → total (λ x. 1) l ≡ length l
 total-length [] = refl
 total-length (x ∷ l) = omega (arith, total-length l)
 
+pub total-small : (f : ℕ → ℕ) → ((x : ℕ) → f x ≤ 1) → (l : List ℕ) → total f l ≤ length l
+total-small f small [] = omega arith
+total-small f small (x ∷ l) = omega (arith, small x, total-small f small l)
+
+pub tally-small : (b : Bool) → tally b ≤ 1
+tally-small true = omega arith
+tally-small false = omega arith
+
 pub total-keep : (f : ℕ → ℕ) (p : ℕ → Bool) (l : List ℕ) → total f (keep p l) ≡ total (λ x. cond (p x) (f x) 0) l
 total-keep f p [] = refl
 total-keep f p (x ∷ l) = go (p x) (total-keep f p l)
@@ -187,13 +195,9 @@ full : (g : ℕ → ℕ) (a n : ℕ) → ((x : ℕ) → g x ≤ 1) → total g (
 full g a zero small e x l h = absurd (omega arith)
 full g a (suc n) small e x l h =
     ⊎-elim
-    (λ q. omega (arith, ap g q, small a, at-most (upFrom (suc a) n), length-upFrom (suc a) n))
-    (λ m. full g (suc a) n small (omega (arith, small a, at-most (upFrom (suc a) n), length-upFrom (suc a) n)) x m (omega arith))
+    (λ q. omega (arith, ap g q, small a, total-small g small (upFrom (suc a) n), length-upFrom (suc a) n))
+    (λ m. full g (suc a) n small (omega (arith, small a, total-small g small (upFrom (suc a) n), length-upFrom (suc a) n)) x m (omega arith))
     (eq-or-lt-of-le l)
-  where
-    at-most : (l : List ℕ) → total g l ≤ length l
-    at-most [] = omega arith
-    at-most (x ∷ l) = omega (arith, small x, at-most l)
 
 pub pigeonhole : (l : List ℕ) (a : ℕ) → ((x : ℕ) → 0 < count x l → (a ≤ x) × (x < a + length l)) → ((x : ℕ) → count x l ≤ 1)
     → (x : ℕ) → a ≤ x → x < a + length l → count x l ≡ 1
