@@ -1,74 +1,229 @@
-"""A night drawn as text, stage by stage, from the library's own replay."""
+"""A night drawn as text, stage by stage, to the width of the terminal: python3 -m altairpeg show CARD."""
 
-from . import Refusal, check, replay
+from __future__ import annotations
+
+import argparse
+import re
+import shutil
+import sys
+import textwrap
+from typing import Collection, List, Sequence
+
+from . import Refusal, read_card
+from .output import write_out, write_whole
+from .story import Story, disorder, headline, tell, trouble
+from .svg import picture
+
+# Up to so many trains, each stage shows them all; of more, only those that cars have just rolled to.
+FEW_TRAINS = 8
+NARROWEST = 40
+WIDEST = 160
 
 
-def _name(plan, track):
-    """A track's name: a sorting track by its number, a destination by its train."""
-    tracks = plan.night.tracks
-    return f"track {track}" if track < tracks else f"train {track - tracks + 1}"
+def _cells(cars: Sequence[int], marked: Collection[int]) -> List[str]:
+    """Cars in words, with a sign behind each that is marked."""
+    return [f"{car}!" if car in marked else str(car) for car in cars]
 
 
-def _row(name, cars, width):
+def _lines(words: Sequence[str], width: int, gap: str = " ") -> List[str]:
+    """Words one behind the other, as many to a line as fit."""
+    lines: List[str] = []
+    for word in words:
+        if lines and len(lines[-1]) + len(gap) + len(word) <= width:
+            lines[-1] += gap + word
+        else:
+            lines.append(word)
+    return lines or [""]
+
+
+def _columns(words: Sequence[str], width: int) -> List[str]:
+    """Words in one line where they fit, and otherwise in columns."""
+    lines = _lines(words, width)
+    if len(lines) == 1:
+        return lines
+    widest = max(map(len, words))
+    return _lines([word.rjust(widest) for word in words], width)
+
+
+def _listed(head: str, words: Sequence[str], width: int) -> List[str]:
+    """A list behind its head where it fits in the line, and otherwise below it."""
+    if len(head) + 1 + len(" ".join(words)) <= width:
+        return [f"{head} {' '.join(words)}"]
+    return [head, *(f"    {line}" for line in _columns(words, width - 4))]
+
+
+def _row(name: str, words: Sequence[str], width: int) -> List[str]:
     """A row of the drawing: what stands on a track, front first."""
-    return f"  {name:<{width}} | {' '.join(map(str, cars))}".rstrip()
+    first, *further = _columns(words, width - len(name) - 5)
+    return [f"  {name} | {first}".rstrip(), *(f"  {' ' * len(name)} | {line}" for line in further)]
 
 
-def _rows(plan, stage):
-    """A row for each track."""
-    names = [_name(plan, track) for track in range(plan.night.tracks + len(plan.night.lengths))]
-    width = max(map(len, names))
-    return [_row(name, stage.cars_on(track), width) for track, name in enumerate(names)]
+def _rows(story: Story, stage: int, width: int) -> List[str]:
+    """A row for each sorting track and, where they are few, for each train; many trains stand side by side."""
+    yard, marked = story.yards[stage].tracks, _marked(story, stage)
+    many = len(story.plan.night.lengths) > FEW_TRAINS
+    rows = range(story.plan.night.tracks if many else len(yard))
+    widest = max(len(story.name(track)) for track in rows)
+    lines = [line for track in rows for line in _row(story.name(track).ljust(widest), _cells(yard[track], marked), width)]
+    return lines + _trains_reached(story, stage, width) if many else lines
 
 
-def _rolls(plan, cars, after):
-    """Where each car rolls, in the order in which they go over the hump."""
-    width = len(str(len(plan.night.inbound)))
-    return [f"  {car:>{width}} rolls to {_name(plan, after.tracks[car - 1])}" for car in cars]
+def _trains_reached(story: Story, stage: int, width: int) -> List[str]:
+    """The trains that cars have just rolled to, side by side, and how many others there are."""
+    yard, marked = story.yards[stage].tracks, _marked(story, stage)
+    reached = sorted({cut.track for cut in story.cuts(stage) if cut.track >= story.plan.night.tracks})
+    left_out = len(story.plan.night.lengths) - len(reached)
+    others = [f"  {left_out} other trains {'as before' if stage else 'empty'}"] if left_out else []
+    return _flow([f"{story.name(track)}: {' '.join(_cells(yard[track], marked))}" for track in reached], width) + others
 
 
-def _roll_in(plan, first):
+def _marked(story: Story, stage: int) -> List[int]:
+    """The cars that stand wrong at a stage: those that make the next step fail, or the trains at the end."""
+    return story.wrong(stage) if stage in story.pulls else story.out_of_order()
+
+
+def _flow(cells: Sequence[str], width: int) -> List[str]:
+    """Cells one behind the other, as many to a line as fit; one that is longer than a line is broken."""
+    whole = [part for cell in cells for part in textwrap.wrap(cell, width - 2)]
+    return [f"  {line}" for line in _lines(whole, width - 2, "   ")] if whole else []
+
+
+def _rolls(story: Story, stage: int, width: int) -> List[str]:
+    """Where the cars roll, in the order in which they go over the hump: those that go to one track together."""
+    return _flow([f"{' '.join(map(str, cut.cars))} -> {story.name(cut.track)}" for cut in story.cuts(stage)], width)
+
+
+def _counted(head: str, words: Sequence[str], width: int) -> str:
+    """A list behind its head where it fits in the line, and otherwise its length: the cuts below have it all."""
+    line = f"{head} {' '.join(words)}"
+    return line if len(line) <= width else f"{head} {len(words)} cars"
+
+
+def _roll_in(story: Story, width: int) -> List[str]:
     """The first roll-in."""
-    cars = plan.night.inbound
-    return [f"first roll-in: {' '.join(map(str, cars))}", *_rolls(plan, cars, first)]
+    return [_counted("first roll-in:", _cells(story.plan.night.inbound, ()), width), *_rolls(story, 0, width)]
 
 
-def _pull(plan, step, before, after):
-    """A step: what it pulls, and where each car goes."""
-    track = step % plan.night.tracks
-    cars = before.cars_on(track)
+def _pull(story: Story, step: int, width: int, in_full: bool) -> List[str]:
+    """A step: what it pulls, and what is wrong with that."""
+    track, cars = step % story.plan.night.tracks, story.pulled(step)
     if not cars:
         return [f"step {step} finds track {track} empty"]
-    return [f"step {step} pulls track {track}: {' '.join(map(str, cars))}", *_rolls(plan, cars, after)]
+    head, words, told = f"step {step} pulls track {track}:", _cells(cars, story.wrong(step)), trouble(story, step)
+    lines = _listed(head, words, width) if in_full else [_counted(head, words, width)]
+    return lines + (textwrap.wrap(f"! {told}", width, initial_indent="  ", subsequent_indent="    ") if told else [])
 
 
-def _trains(plan, last):
-    """The trains as built, front first."""
-    lines = [f"  train {train}: {' '.join(map(str, last.cars_on(plan.night.tracks + train - 1)))}" for train in range(1, len(plan.night.lengths) + 1)]
-    return ["trains as built", *lines]
+def _step(story: Story, step: int, width: int) -> List[str]:
+    """A step: what it pulls, and where that rolls unless the story ends there."""
+    rolls = story.pulled(step) and not story.fails_at(step)
+    return _pull(story, step, width, False) + (_rolls(story, step + 1, width) if rolls else [])
 
 
-def _verdict(plan):
+def _trains(story: Story, width: int) -> List[str]:
+    """The trains as built, front first; none where the story ends before."""
+    if len(story.yards) <= story.plan.steps:
+        return []
+    marked = story.out_of_order()
+    numbers = range(1, len(story.plan.night.lengths) + 1)
+    lines = [line for number in numbers for line in _listed(f"train {number}:", _cells(story.train(number), marked), width)]
+    return lines + ([f"  ! {disorder(story)}"] if marked else [])
+
+
+def _verdict(story: Story, width: int) -> List[str]:
     """What check says of the plan."""
+    if story.refusal:
+        return textwrap.wrap(f"check: {story.refusal}", width, subsequent_indent="    ")
+    return [f"check: accepted, {story.verdict.passes} passes, fullest pull {story.verdict.fullest_pull}"]
+
+
+def _text(parts: Sequence[Sequence[str]], between: str) -> str:
+    """Parts of lines as one text; an empty part leaves no trace."""
+    return between.join("\n".join(part) for part in parts if part) + "\n"
+
+
+def brief(story: Story, width: int = 80) -> str:
+    """What each step pulls, and the trains as built."""
+    passes = f" passes {story.verdict.passes}" if story.refusal is None else ""
+    pulls = [_pull(story, step, width, True) for step in story.pulls]
+    return _text([[headline(story.plan) + passes], *pulls, _trains(story, width), _verdict(story, width)], "\n")
+
+
+def draw(story: Story, width: int = 80) -> str:
+    """The whole drawing: each stage of the yard, and between them what is pulled and where it rolls."""
+    parts = [[headline(story.plan)], _roll_in(story, width)]
+    for stage, yard in enumerate(story.yards):
+        parts.append([f"stage {stage}, {yard.passes} passes", *_rows(story, stage, width)])
+        if stage in story.pulls:
+            parts.append(_step(story, stage, width))
+    built = _trains(story, width - 2)
+    parts += [["trains as built", *(f"  {line}" for line in built)]] if built else []
+    return _text([*parts, _verdict(story, width)], "\n\n")
+
+
+# One byte more than the longest card: enough to see that an input is too long, even where it never ends.
+ENOUGH = 1238
+
+
+def read_bytes(name: str) -> bytes:
+    """The bytes of a file, or of standard input for -, as far as a card could need them."""
+    if name != "-":
+        with open(name, "rb") as file:
+            return file.read(ENOUGH)
+    if sys.stdin is None:
+        raise OSError("standard input is closed")
+    return sys.stdin.buffer.read(ENOUGH)
+
+
+def story_of(card: bytes) -> Story:
+    """The story of a card. A refusal line in its place, as the programs print it into a pipe, is raised as that `Refusal`."""
+    line = re.fullmatch(rb"refused (\d{1,20}) (\d{1,20}) (\d{1,20})\s*", card)
+    if line:
+        raise Refusal(*map(int, line.groups()))
+    return tell(read_card(card))
+
+
+def _width() -> int:
+    """The width of the terminal, or 80 where there is none."""
+    return max(NARROWEST, min(WIDEST, shutil.get_terminal_size().columns))
+
+
+def _put_out(given: argparse.Namespace, story: Story) -> None:
+    """Draws as the command was asked to."""
+    if given.svg is None:
+        write_out((brief if given.brief else draw)(story, _width()).encode())
+        return
+    write_whole(given.svg, picture(story).encode())
+    if story.refusal:
+        print(f"check: {story.refusal}", file=sys.stderr)
+
+
+def run(given: argparse.Namespace) -> int:
+    """Draws the night of a card: 0 if its plan is accepted, 1 if it or the card is refused, 2 for a file that fails."""
     try:
-        checked = check(plan)
+        story = story_of(read_bytes(given.card))
+        _put_out(given, story)
     except Refusal as refusal:
-        return f"check: {refusal}"
-    return f"check: accepted, {checked.passes} passes, fullest pull {checked.fullest_pull}"
+        print(refusal, file=sys.stderr)
+        return 1
+    except BrokenPipeError:
+        return 2  # whoever read the drawing has seen enough
+    except OSError as fault:
+        print(f"show: {fault}", file=sys.stderr)
+        return 2
+    return 1 if story.refusal else 0
 
 
-def draw(plan):
-    """The drawing of a plan. A plan that replay refuses is not drawn: its `Refusal` is raised."""
-    night = plan.night
-    stages = [replay(plan, stage) for stage in range(plan.steps + 1)]
-    parts = [
-        [f"steps {plan.steps} tracks {night.tracks} room {night.room} cars {len(night.inbound)} trains {len(night.lengths)}"],
-        _roll_in(plan, stages[0]),
-    ]
-    for number, stage in enumerate(stages):
-        parts.append([f"stage {number}, {stage.passes} passes", *_rows(plan, stage)])
-        if number < plan.steps:
-            parts.append(_pull(plan, number, stage, stages[number + 1]))
-    parts.append(_trains(plan, stages[-1]))
-    parts.append([_verdict(plan)])
-    return "\n\n".join("\n".join(part) for part in parts) + "\n"
+def register(commands) -> None:
+    """Adds `show` to the commands."""
+    show = commands.add_parser(
+        "show",
+        help="draw the yard of a night card, stage by stage",
+        description="Draws the yard of a night card, stage by stage. A plan that is refused is drawn as far as it goes. "
+        "Exit status 0: accepted, 1: refused, 2: wrong usage, or a file that can't be read or written.",
+    )
+    show.add_argument("card", metavar="CARD", nargs="?", default="-", help="a file with the card's bytes, or - for standard input, as where none is named")
+    how = show.add_mutually_exclusive_group()
+    how.add_argument("--brief", action="store_true", help="only what each step pulls, and the trains")
+    how.add_argument("--svg", metavar="FILE", help="draw a picture into this file, or - for standard output")
+    show.set_defaults(run=run)

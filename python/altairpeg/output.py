@@ -1,0 +1,59 @@
+"""What is written, written whole or not at all: files, or standard output."""
+
+from __future__ import annotations
+
+import os
+import stat
+import sys
+import tempfile
+
+
+def _usual_mode() -> int:
+    """The mode that a new file has here."""
+    mask = os.umask(0)
+    os.umask(mask)
+    return 0o666 & ~mask
+
+
+def _replace(path: str, data: bytes, mode: int) -> None:
+    """Writes beside the file first and then moves that over it, so that nobody ever sees half of it."""
+    handle, beside = tempfile.mkstemp(prefix=".altairpeg-", dir=os.path.dirname(path))
+    try:
+        with os.fdopen(handle, "wb") as file:
+            file.write(data)
+        os.chmod(beside, mode)
+        os.replace(beside, path)
+    except BaseException:
+        os.unlink(beside)
+        raise
+
+
+def write_whole(name: str, data: bytes) -> None:
+    """Writes a file, or standard output for -. A device or a pipe is written to; it is not replaced by a file."""
+    if name == "-":
+        write_out(data)
+        return
+    try:
+        mode = os.stat(name).st_mode
+    except FileNotFoundError:
+        _replace(os.path.realpath(name), data, _usual_mode())
+        return
+    # Opened even where it will be replaced: a file that is write-protected, or a folder, is refused here.
+    with open(name, "r+b" if stat.S_ISREG(mode) else "wb", buffering=0) as file:
+        if not stat.S_ISREG(mode):
+            file.write(data)
+            return
+    _replace(os.path.realpath(name), data, stat.S_IMODE(mode))
+
+
+def write_out(data: bytes) -> None:
+    """Writes to standard output and sees to it that all of it went out."""
+    if sys.stdout is None:
+        raise OSError("standard output is closed")
+    try:
+        sys.stdout.buffer.write(data)
+        sys.stdout.buffer.flush()
+    except OSError:
+        # What could not be written would be tried again, and fail again, when Python ends.
+        os.dup2(os.open(os.devnull, os.O_WRONLY), sys.stdout.fileno())
+        raise
