@@ -1,4 +1,7 @@
-"""What is written, written whole or not at all: files, or standard output."""
+"""What is written, written whole or not at all: files, or standard output.
+
+`python3 -m altairpeg.output FILE` keeps standard input in a file, for ./plan.
+"""
 
 from __future__ import annotations
 
@@ -57,3 +60,17 @@ def write_out(data: bytes) -> None:
         # What could not be written would be tried again, and fail again, when Python ends.
         os.dup2(os.open(os.devnull, os.O_WRONLY), sys.stdout.fileno())
         raise
+
+
+def main() -> int:
+    """Keeps standard input in the file named: 0, or 2 and a word where that fails."""
+    try:
+        write_whole(sys.argv[1], sys.stdin.buffer.read())
+    except OSError as fault:
+        print(f"{sys.argv[1]}: {fault.strerror}", file=sys.stderr)
+        return 2
+    return 0
+
+
+if __name__ == "__main__":
+    sys.exit(main())

@@ -45,6 +45,11 @@ def _columns(words: Sequence[str], width: int) -> List[str]:
     return _lines([word.rjust(widest) for word in words], width)
 
 
+def _prose(words: str, width: int, indent: str = "") -> List[str]:
+    """A sentence, its further lines set in."""
+    return textwrap.wrap(words, width, initial_indent=indent, subsequent_indent=indent + "    ")
+
+
 def _listed(head: str, words: Sequence[str], width: int) -> List[str]:
     """A list behind its head where it fits in the line, and otherwise below it."""
     if len(head) + 1 + len(" ".join(words)) <= width:
@@ -111,7 +116,7 @@ def _pull(story: Story, step: int, width: int, in_full: bool) -> List[str]:
         return [f"step {step} finds track {track} empty"]
     head, words, told = f"step {step} pulls track {track}:", _cells(cars, story.wrong(step)), trouble(story, step)
     lines = _listed(head, words, width) if in_full else [_counted(head, words, width)]
-    return lines + (textwrap.wrap(f"! {told}", width, initial_indent="  ", subsequent_indent="    ") if told else [])
+    return lines + (_prose(f"! {told}", width, "  ") if told else [])
 
 
 def _step(story: Story, step: int, width: int) -> List[str]:
@@ -127,14 +132,14 @@ def _trains(story: Story, width: int) -> List[str]:
     marked = story.out_of_order()
     numbers = range(1, len(story.plan.night.lengths) + 1)
     lines = [line for number in numbers for line in _listed(f"train {number}:", _cells(story.train(number), marked), width)]
-    return lines + ([f"  ! {disorder(story)}"] if marked else [])
+    return lines + (_prose(f"! {disorder(story)}", width, "  ") if marked else [])
 
 
 def _verdict(story: Story, width: int) -> List[str]:
     """What check says of the plan."""
     if story.refusal:
-        return textwrap.wrap(f"check: {story.refusal}", width, subsequent_indent="    ")
-    return [f"check: accepted, {story.verdict.passes} passes, fullest pull {story.verdict.fullest_pull}"]
+        return _prose(f"check: {story.refusal}", width)
+    return _prose(f"check: accepted, {story.verdict.passes} passes, fullest pull {story.verdict.fullest_pull}", width)
 
 
 def _text(parts: Sequence[Sequence[str]], between: str) -> str:
@@ -146,12 +151,12 @@ def brief(story: Story, width: int = 80) -> str:
     """What each step pulls, and the trains as built."""
     passes = f" passes {story.verdict.passes}" if story.refusal is None else ""
     pulls = [_pull(story, step, width, True) for step in story.pulls]
-    return _text([[headline(story.plan) + passes], *pulls, _trains(story, width), _verdict(story, width)], "\n")
+    return _text([_prose(headline(story.plan) + passes, width), *pulls, _trains(story, width), _verdict(story, width)], "\n")
 
 
 def draw(story: Story, width: int = 80) -> str:
     """The whole drawing: each stage of the yard, and between them what is pulled and where it rolls."""
-    parts = [[headline(story.plan)], _roll_in(story, width)]
+    parts = [_prose(headline(story.plan), width), _roll_in(story, width)]
     for stage, yard in enumerate(story.yards):
         parts.append([f"stage {stage}, {yard.passes} passes", *_rows(story, stage, width)])
         if stage in story.pulls:
