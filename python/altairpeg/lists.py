@@ -29,6 +29,8 @@ LARGEST = 2**16 - 1
 LARGEST_COUNT = 2**64 - 1
 # No list of document 01 has as many items, so what follows behind them never decides.
 MOST = 2**16
+# The formats of items that memoryview turns into Python's numbers.
+_READABLE = frozenset("bBhHiIlLqQnN?fd")
 
 
 def whole(name: str, given: SupportsIndex) -> int:
@@ -93,14 +95,28 @@ def _fitting(name: str, item: SupportsIndex, negative: int) -> int:
 def _items(name: str, given: Any) -> list[Any] | bytes:
     """The items of what is neither list nor tuple, as a list; those of a buffer of C's own type as they lie in memory."""
     try:
-        view = memoryview(given)[:MOST]
-        return view.tobytes() if view.format == "H" else view.tolist()
-    except (TypeError, ValueError, BufferError, NotImplementedError):
-        pass  # no buffer, or one whose items Python does not read by itself
-    # A set has no order, a mapping gives its keys, and a generator could be read only once.
-    if not (hasattr(given, "__len__") and hasattr(given, "__getitem__")) or isinstance(given, Mapping):
-        raise InputError(f"{name} is {shown(given)}, not a list of whole numbers")
-    try:
-        return list(islice(iter(given), MOST))
-    except (TypeError, ValueError):
+        return _buffered(given) if _is_buffer(given) else _listed(given)
+    except (TypeError, ValueError, NotImplementedError):
         raise InputError(f"{name} is {shown(given)}, not a list of whole numbers") from None
+
+
+def _is_buffer(given: Any) -> bool:
+    """Whether the items lie in memory in a way that Python reads by itself."""
+    try:
+        view = memoryview(given)
+    except TypeError:
+        return False
+    return view.ndim == 1 and view.format in _READABLE
+
+
+def _buffered(given: Any) -> list[Any] | bytes:
+    """The items of a buffer, as numpy has them, without a loop in Python."""
+    view = memoryview(given)[:MOST]
+    return view.tobytes() if view.format == "H" else view.tolist()
+
+
+def _listed(given: Any) -> list[Any]:
+    """The items of a range, a deque and the like. A set has no order, a mapping gives keys, a generator can be read only once."""
+    if not (hasattr(given, "__len__") and hasattr(given, "__getitem__")) or isinstance(given, Mapping):
+        raise TypeError
+    return list(islice(given, MOST))
