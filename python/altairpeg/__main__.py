@@ -1,19 +1,8 @@
-"""python3 -m altairpeg show CARD: draws the night of a card."""
+"""python3 -m altairpeg: the command line."""
 
-import argparse
 import sys
 
-from . import show
-
-
-def main() -> int:
-    """Runs the command that is named."""
-    parser = argparse.ArgumentParser(prog="altairpeg", description="Multistage sorting plans.")
-    commands = parser.add_subparsers(dest="command", required=True)
-    show.register(commands)
-    given = parser.parse_args()
-    return given.run(given)
-
+from .cli import main
 
 if __name__ == "__main__":
     sys.exit(main())

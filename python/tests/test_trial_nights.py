@@ -99,8 +99,8 @@ class TrialNights(unittest.TestCase):
 
     def test_numbers_too_large_are_not_cut_off(self):
         self.assertRaises(ValueError, fewest_tracks, 256)
-        self.assertRaises(ValueError, derive, Night([6 + 2**16], INBOUND, 2, 3))
-        self.assertRaises(ValueError, derive, n(tracks=2 + 2**64))
+        self.refused(2, 0, 0, derive, Night([6 + 2**16], INBOUND, 2, 3))
+        self.refused(1, 3, 0, derive, n(tracks=2 + 2**64))
 
     def test_refusal_in_words(self):
         refusal = Refusal(6, 0, 3)
