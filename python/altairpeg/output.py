@@ -5,10 +5,13 @@
 
 from __future__ import annotations
 
+import errno
 import os
 import stat
 import sys
 import tempfile
+
+from .errors import FileError
 
 
 def _usual_mode() -> int:
@@ -33,26 +36,37 @@ def _replace(path: str, data: bytes, mode: int) -> None:
 
 def write_whole(name: str, data: bytes) -> None:
     """Writes a file, or standard output for -. A device or a pipe is written to; it is not replaced by a file."""
-    if name == "-":
-        write_out(data)
-        return
+    try:
+        if name == "-":
+            write_out(data)
+        else:
+            _write_file(name, data)
+    except BrokenPipeError:
+        raise
+    except OSError as trouble:
+        raise FileError(trouble.errno, trouble.strerror, name) from None
+
+
+def _write_file(name: str, data: bytes) -> None:
+    """Writes a file that may be new, be there already, or be no plain file."""
     try:
         mode = os.stat(name).st_mode
     except FileNotFoundError:
         _replace(os.path.realpath(name), data, _usual_mode())
         return
-    # Opened even where it will be replaced: a file that is write-protected, or a folder, is refused here.
-    with open(name, "r+b" if stat.S_ISREG(mode) else "wb", buffering=0) as file:
-        if not stat.S_ISREG(mode):
+    plain = stat.S_ISREG(mode)
+    # Opened even where it is to be replaced: a file that is write-protected, and a folder, are refused here.
+    with open(name, "r+b" if plain else "wb") as file:
+        if not plain:
             file.write(data)
-            return
-    _replace(os.path.realpath(name), data, stat.S_IMODE(mode))
+    if plain:
+        _replace(os.path.realpath(name), data, stat.S_IMODE(mode))
 
 
 def write_out(data: bytes) -> None:
     """Writes to standard output and sees to it that all of it went out."""
     if sys.stdout is None:
-        raise OSError("standard output is closed")
+        raise OSError(errno.EBADF, os.strerror(errno.EBADF), "standard output")
     try:
         sys.stdout.buffer.write(data)
         sys.stdout.buffer.flush()

@@ -3,31 +3,28 @@
 from __future__ import annotations
 
 import argparse
-import re
 import shutil
 import sys
 import textwrap
-from typing import Collection, List, Sequence
+from typing import Any, Collection, Sequence
 
-from . import Refusal, read_card
+from .files import CARD_HELP, headline, read_plan
 from .output import write_out, write_whole
-from .story import Story, disorder, headline, tell, trouble
+from .story import FEW_TRAINS, Story, disorder, tell, trouble
 from .svg import picture
 
-# Up to so many trains, each stage shows them all; of more, only those that cars have just rolled to.
-FEW_TRAINS = 8
 NARROWEST = 40
 WIDEST = 160
 
 
-def _cells(cars: Sequence[int], marked: Collection[int]) -> List[str]:
+def _cells(cars: Sequence[int], marked: Collection[int]) -> list[str]:
     """Cars in words, with a sign behind each that is marked."""
     return [f"{car}!" if car in marked else str(car) for car in cars]
 
 
-def _lines(words: Sequence[str], width: int, gap: str = " ") -> List[str]:
+def _lines(words: Sequence[str], width: int, gap: str = " ") -> list[str]:
     """Words one behind the other, as many to a line as fit."""
-    lines: List[str] = []
+    lines: list[str] = []
     for word in words:
         if lines and len(lines[-1]) + len(gap) + len(word) <= width:
             lines[-1] += gap + word
@@ -36,7 +33,7 @@ def _lines(words: Sequence[str], width: int, gap: str = " ") -> List[str]:
     return lines or [""]
 
 
-def _columns(words: Sequence[str], width: int) -> List[str]:
+def _columns(words: Sequence[str], width: int) -> list[str]:
     """Words in one line where they fit, and otherwise in columns."""
     lines = _lines(words, width)
     if len(lines) == 1:
@@ -45,25 +42,25 @@ def _columns(words: Sequence[str], width: int) -> List[str]:
     return _lines([word.rjust(widest) for word in words], width)
 
 
-def _prose(words: str, width: int, indent: str = "") -> List[str]:
+def _prose(words: str, width: int, indent: str = "") -> list[str]:
     """A sentence, its further lines set in."""
     return textwrap.wrap(words, width, initial_indent=indent, subsequent_indent=indent + "    ")
 
 
-def _listed(head: str, words: Sequence[str], width: int) -> List[str]:
+def _listed(head: str, words: Sequence[str], width: int) -> list[str]:
     """A list behind its head where it fits in the line, and otherwise below it."""
     if len(head) + 1 + len(" ".join(words)) <= width:
         return [f"{head} {' '.join(words)}"]
     return [head, *(f"    {line}" for line in _columns(words, width - 4))]
 
 
-def _row(name: str, words: Sequence[str], width: int) -> List[str]:
+def _row(name: str, words: Sequence[str], width: int) -> list[str]:
     """A row of the drawing: what stands on a track, front first."""
     first, *further = _columns(words, width - len(name) - 5)
     return [f"  {name} | {first}".rstrip(), *(f"  {' ' * len(name)} | {line}" for line in further)]
 
 
-def _rows(story: Story, stage: int, width: int) -> List[str]:
+def _rows(story: Story, stage: int, width: int) -> list[str]:
     """A row for each sorting track and, where they are few, for each train; many trains stand side by side."""
     yard, marked = story.yards[stage].tracks, _marked(story, stage)
     many = len(story.plan.night.lengths) > FEW_TRAINS
@@ -73,7 +70,7 @@ def _rows(story: Story, stage: int, width: int) -> List[str]:
     return lines + _trains_reached(story, stage, width) if many else lines
 
 
-def _trains_reached(story: Story, stage: int, width: int) -> List[str]:
+def _trains_reached(story: Story, stage: int, width: int) -> list[str]:
     """The trains that cars have just rolled to, side by side, and how many others there are."""
     yard, marked = story.yards[stage].tracks, _marked(story, stage)
     reached = sorted({cut.track for cut in story.cuts(stage) if cut.track >= story.plan.night.tracks})
@@ -82,18 +79,18 @@ def _trains_reached(story: Story, stage: int, width: int) -> List[str]:
     return _flow([f"{story.name(track)}: {' '.join(_cells(yard[track], marked))}" for track in reached], width) + others
 
 
-def _marked(story: Story, stage: int) -> List[int]:
+def _marked(story: Story, stage: int) -> list[int]:
     """The cars that stand wrong at a stage: those that make the next step fail, or the trains at the end."""
     return story.wrong(stage) if stage in story.pulls else story.out_of_order()
 
 
-def _flow(cells: Sequence[str], width: int) -> List[str]:
+def _flow(cells: Sequence[str], width: int) -> list[str]:
     """Cells one behind the other, as many to a line as fit; one that is longer than a line is broken."""
     whole = [part for cell in cells for part in textwrap.wrap(cell, width - 2)]
     return [f"  {line}" for line in _lines(whole, width - 2, "   ")] if whole else []
 
 
-def _rolls(story: Story, stage: int, width: int) -> List[str]:
+def _rolls(story: Story, stage: int, width: int) -> list[str]:
     """Where the cars roll, in the order in which they go over the hump: those that go to one track together."""
     return _flow([f"{' '.join(map(str, cut.cars))} -> {story.name(cut.track)}" for cut in story.cuts(stage)], width)
 
@@ -104,12 +101,12 @@ def _counted(head: str, words: Sequence[str], width: int) -> str:
     return line if len(line) <= width else f"{head} {len(words)} cars"
 
 
-def _roll_in(story: Story, width: int) -> List[str]:
+def _roll_in(story: Story, width: int) -> list[str]:
     """The first roll-in."""
     return [_counted("first roll-in:", _cells(story.plan.night.inbound, ()), width), *_rolls(story, 0, width)]
 
 
-def _pull(story: Story, step: int, width: int, in_full: bool) -> List[str]:
+def _pull(story: Story, step: int, width: int, in_full: bool) -> list[str]:
     """A step: what it pulls, and what is wrong with that."""
     track, cars = step % story.plan.night.tracks, story.pulled(step)
     if not cars:
@@ -119,13 +116,13 @@ def _pull(story: Story, step: int, width: int, in_full: bool) -> List[str]:
     return lines + (_prose(f"! {told}", width, "  ") if told else [])
 
 
-def _step(story: Story, step: int, width: int) -> List[str]:
+def _step(story: Story, step: int, width: int) -> list[str]:
     """A step: what it pulls, and where that rolls unless the story ends there."""
     rolls = story.pulled(step) and not story.fails_at(step)
     return _pull(story, step, width, False) + (_rolls(story, step + 1, width) if rolls else [])
 
 
-def _trains(story: Story, width: int) -> List[str]:
+def _trains(story: Story, width: int) -> list[str]:
     """The trains as built, front first; none where the story ends before."""
     if len(story.yards) <= story.plan.steps:
         return []
@@ -135,7 +132,7 @@ def _trains(story: Story, width: int) -> List[str]:
     return lines + (_prose(f"! {disorder(story)}", width, "  ") if marked else [])
 
 
-def _verdict(story: Story, width: int) -> List[str]:
+def _verdict(story: Story, width: int) -> list[str]:
     """What check says of the plan."""
     if story.refusal:
         return _prose(f"check: {story.refusal}", width)
@@ -166,69 +163,34 @@ def draw(story: Story, width: int = 80) -> str:
     return _text([*parts, _verdict(story, width)], "\n\n")
 
 
-# One byte more than the longest card: enough to see that an input is too long, even where it never ends.
-ENOUGH = 1238
-
-
-def read_bytes(name: str) -> bytes:
-    """The bytes of a file, or of standard input for -, as far as a card could need them."""
-    if name != "-":
-        with open(name, "rb") as file:
-            return file.read(ENOUGH)
-    if sys.stdin is None:
-        raise OSError("standard input is closed")
-    return sys.stdin.buffer.read(ENOUGH)
-
-
-def story_of(card: bytes) -> Story:
-    """The story of a card. A refusal line in its place, as the programs print it into a pipe, is raised as that `Refusal`."""
-    line = re.fullmatch(rb"refused (\d{1,20}) (\d{1,20}) (\d{1,20})\s*", card)
-    if line:
-        raise Refusal(*map(int, line.groups()))
-    return tell(read_card(card))
-
-
 def _width() -> int:
     """The width of the terminal, or 80 where there is none."""
     return max(NARROWEST, min(WIDEST, shutil.get_terminal_size().columns))
 
 
-def _put_out(given: argparse.Namespace, story: Story) -> None:
-    """Draws as the command was asked to."""
-    if given.svg is None:
-        write_out((brief if given.brief else draw)(story, _width()).encode())
-        return
-    write_whole(given.svg, picture(story).encode())
-    if story.refusal:
-        print(f"check: {story.refusal}", file=sys.stderr)
-
-
 def run(given: argparse.Namespace) -> int:
-    """Draws the night of a card: 0 if its plan is accepted, 1 if it or the card is refused, 2 for a file that fails."""
-    try:
-        story = story_of(read_bytes(given.card))
-        _put_out(given, story)
-    except Refusal as refusal:
-        print(refusal, file=sys.stderr)
-        return 1
-    except BrokenPipeError:
-        return 2  # whoever read the drawing has seen enough
-    except OSError as fault:
-        print(f"show: {fault}", file=sys.stderr)
-        return 2
+    """Draws the night of a card: 0 if its plan is accepted, 1 if it is refused."""
+    story = tell(read_plan(given.card))
+    if given.svg is not None:
+        write_whole(given.svg, picture(story).encode())
+        if story.refusal:
+            print(f"check: {story.refusal}", file=sys.stderr)
+    else:
+        write_out((brief if given.brief else draw)(story, _width()).encode())
     return 1 if story.refusal else 0
 
 
-def register(commands) -> None:
+def register(commands: Any) -> None:
     """Adds `show` to the commands."""
-    show = commands.add_parser(
+    parser = commands.add_parser(
         "show",
+        allow_abbrev=False,
         help="draw the yard of a night card, stage by stage",
-        description="Draws the yard of a night card, stage by stage. A plan that is refused is drawn as far as it goes. "
-        "Exit status 0: accepted, 1: refused, 2: wrong usage, or a file that can't be read or written.",
+        description="Draws the yard of a night card, stage by stage, to the width of the terminal. A plan that check refuses for room, "
+        "an early pull or order is drawn as far as it goes, with the place where it fails marked; the exit status is then 1.",
     )
-    show.add_argument("card", metavar="CARD", nargs="?", default="-", help="a file with the card's bytes, or - for standard input, as where none is named")
-    how = show.add_mutually_exclusive_group()
-    how.add_argument("--brief", action="store_true", help="only what each step pulls, and the trains")
+    parser.add_argument("card", metavar="CARD", help=CARD_HELP)
+    how = parser.add_mutually_exclusive_group()
+    how.add_argument("--brief", action="store_true", help="only what each step pulls, and the trains as built")
     how.add_argument("--svg", metavar="FILE", help="draw a picture into this file, or - for standard output")
-    show.set_defaults(run=run)
+    parser.set_defaults(run=run)

@@ -6,10 +6,11 @@ The picture is plain SVG of edition 1.1 with no reference to anything outside it
 from __future__ import annotations
 
 import textwrap
-from typing import Collection, Dict, List, NamedTuple, Sequence
+from typing import Collection, NamedTuple, Sequence
 from xml.sax.saxutils import escape
 
-from .story import Story, disorder, headline, trouble
+from .files import headline
+from .story import FEW_TRAINS, Story, disorder, trouble
 
 # Okabe and Ito's colours, which people with any colour vision tell apart, with grey in place of black.
 COLOURS = ("#56b4e9", "#e69f00", "#009e73", "#f0e442", "#0072b2", "#d55e00", "#cc79a7", "#bbbbbb")
@@ -18,11 +19,13 @@ INK, PALE, PULLED, WRONG = "#1a1a1a", "#efefef", "#fff2cc", "#b00020"
 MARGIN = 20
 LABEL = 96
 BAND = 4
+# The least height of a row: its label has two lines.
+LOWEST = 30
+# The free space below the boxes of a line: with names of tracks there, and without.
+NAMED, BARE = 22, 6
 
 # Up to so many cars the boxes are wide enough for a track's whole name below them.
 FEW_CARS = 60
-# Up to so many trains, each stage shows them all; of more, only those that cars have just rolled to.
-FEW_TRAINS = 8
 
 
 class Scale(NamedTuple):
@@ -75,11 +78,11 @@ class Sheet:
     def __init__(self, story: Story) -> None:
         self.story = story
         self.scale = _scale(len(story.plan.night.inbound))
-        self.drawn: List[str] = []
+        self.drawn: list[str] = []
         self.y = MARGIN
         self.width = 2 * MARGIN + LABEL + self.scale.line * self.scale.width
         lengths = story.plan.night.lengths
-        self.train_of: Dict[int, int] = dict(enumerate((train for train, length in enumerate(lengths, 1) for _ in range(length)), 1))
+        self.train_of: dict[int, int] = dict(enumerate((train for train, length in enumerate(lengths, 1) for _ in range(length)), 1))
 
     def rect(self, x: int, y: int, width: int, height: int, look: str) -> None:
         """A rectangle."""
@@ -158,12 +161,9 @@ def _bracket(sheet: Sheet, x: int, y: int, width: int, name: str) -> None:
 
 
 def _label(sheet: Sheet, x: int, name: str, count: str) -> None:
-    """The name of a row, with its count beside it where the row is low and below it where it is high."""
+    """The name of a row, and below it its count of cars."""
     sheet.text(x, sheet.y + 12, name, 'font-size="13"')
     sheet.text(x, sheet.y + 24, count, 'font-size="10" fill="#555"')
-
-
-TARGETS = 22
 
 
 def _inbound(sheet: Sheet) -> None:
@@ -171,84 +171,112 @@ def _inbound(sheet: Sheet) -> None:
     cars = sheet.story.plan.night.inbound
     sheet.heading(f"First roll-in, {len(cars)} cars over the hump")
     _label(sheet, MARGIN, "inbound", f"{len(cars)} cars")
-    _cars(sheet, MARGIN + LABEL, cars, TARGETS)
-    _targets(sheet, MARGIN + LABEL, 0, TARGETS)
-    sheet.y += _depth(sheet, len(cars), TARGETS)
+    _cars(sheet, MARGIN + LABEL, cars, NAMED)
+    _targets(sheet, MARGIN + LABEL, 0, NAMED)
+    sheet.y += _depth(sheet, len(cars), NAMED)
 
 
 def _sorting_track(sheet: Sheet, stage: int, track: int, moved: Collection[int]) -> None:
-    """A sorting track: its room, its cars, and if the next step pulls it, where they roll."""
-    story = sheet.story
-    night, cars, x = story.plan.night, story.yards[stage].tracks[track], MARGIN + LABEL
-    pulled = stage in story.pulls and stage % night.tracks == track
-    goes_on = pulled and not story.fails_at(stage)
-    below = TARGETS if goes_on and cars else 6
-    depth = max(_depth(sheet, len(cars), below), 30)
-    if pulled:
-        sheet.rect(MARGIN - 6, sheet.y - 4, sheet.width - 2 * MARGIN + 12, depth + 2, f'fill="{PULLED}"')
+    """A sorting track with its room and its cars."""
+    night, cars, x = sheet.story.plan.night, sheet.story.yards[stage].tracks[track], MARGIN + LABEL
     sheet.rect(x - 1, sheet.y, min(night.room, sheet.scale.line) * sheet.scale.width, sheet.scale.height, f'fill="{PALE}"')
-    _label(sheet, MARGIN, f"track {track}", f"{len(cars)} of {night.room}{', pulled' if pulled else ''}")
-    _cars(sheet, x, cars, below, moved, story.wrong(stage) if pulled else ())
-    if goes_on:
+    _label(sheet, MARGIN, f"track {track}", f"{len(cars)} of {night.room}")
+    _cars(sheet, x, cars, BARE, moved)
+    sheet.y += max(_depth(sheet, len(cars), BARE), LOWEST) + 4
+
+
+def _pulled_track(sheet: Sheet, stage: int, moved: Collection[int]) -> None:
+    """The track that the next step pulls: its cars, and below them where they roll, or what is wrong with them."""
+    story, x = sheet.story, MARGIN + LABEL
+    cars, told = story.pulled(stage), trouble(story, stage)
+    below = BARE if story.fails_at(stage) or not cars else NAMED
+    depth = max(_depth(sheet, len(cars), below), LOWEST)
+    sheet.rect(MARGIN - 6, sheet.y - 4, sheet.width - 2 * MARGIN + 12, depth + 2 + (24 if told else 0), f'fill="{PULLED}"')
+    _label(sheet, MARGIN, f"track {stage % story.plan.night.tracks}", f"{len(cars)} of {story.plan.night.room}, pulled")
+    _cars(sheet, x, cars, below, moved, story.wrong(stage))
+    if not story.fails_at(stage):
         _targets(sheet, x, stage + 1, below)
     sheet.y += depth + 4
-    if pulled and trouble(story, stage):
-        sheet.paragraph(f"! {trouble(story, stage)}", 13, f'fill="{WRONG}" font-weight="bold"')
-        sheet.y += 8
+    if told:
+        sheet.text(x, sheet.y + 10, f"! {told}", f'font-size="13" fill="{WRONG}" font-weight="bold"')
+        sheet.y += 24
+
+
+def _shown_trains(story: Story, stage: int) -> list[int]:
+    """The trains that a stage shows: all of them at the end or where they are few, else those that cars have just rolled to."""
+    night = story.plan.night
+    trains = range(1, len(night.lengths) + 1)
+    if stage == story.plan.steps or len(trains) <= FEW_TRAINS:
+        return list(trains)
+    reached = {cut.track for cut in story.cuts(stage)}
+    return [train for train in trains if night.tracks + train - 1 in reached]
 
 
 def _trains(sheet: Sheet, stage: int, moved: Collection[int]) -> None:
     """The destination tracks, side by side where several fit."""
-    story, scale = sheet.story, sheet.scale
-    night, last = story.plan.night, stage == story.plan.steps
-    reached = {cut.track - night.tracks for cut in story.cuts(stage)}
-    shown = [at for at in range(len(night.lengths)) if last or len(night.lengths) <= FEW_TRAINS or at in reached]
-    longest = max(night.lengths)
-    across = LABEL + longest * scale.width
-    beside = max(1, (sheet.width - 2 * MARGIN + scale.width) // (across + scale.width)) if longest <= scale.line else 1
-    wrong = story.out_of_order() if last else ()
+    story, step = sheet.story, sheet.scale.width
+    shown, lengths = _shown_trains(story, stage), story.plan.night.lengths
+    across = LABEL + (max(lengths) + 1) * step
+    beside = max(1, (sheet.width - 2 * MARGIN + step) // across)
     for first in range(0, len(shown), beside):
-        deepest = 30
-        for column, at in enumerate(shown[first : first + beside]):
-            x, cars = MARGIN + column * (across + scale.width), story.yards[stage].tracks[night.tracks + at]
-            _label(sheet, x, f"train {at + 1}", f"{len(cars)} of {night.lengths[at]}")
-            _cars(sheet, x + LABEL, cars, 6, moved, wrong)
-            deepest = max(deepest, _depth(sheet, len(cars), 6))
-        sheet.y += deepest + 2
-    if len(shown) < len(night.lengths):
-        sheet.paragraph(f"{len(night.lengths) - len(shown)} other trains {'as before' if stage else 'empty'}", 12, 'fill="#555"')
+        row = shown[first : first + beside]
+        sheet.y += 2 + max([_train(sheet, MARGIN + column * across, stage, train, moved) for column, train in enumerate(row)])
+    if len(shown) < len(lengths):
+        sheet.paragraph(f"{len(lengths) - len(shown)} other trains {'as before' if stage else 'empty'}", 12, 'fill="#555"')
+
+
+def _train(sheet: Sheet, x: int, stage: int, train: int, moved: Collection[int]) -> int:
+    """The destination track of a train; the height of its row is given back."""
+    story = sheet.story
+    night, cars = story.plan.night, story.yards[stage].tracks[story.plan.night.tracks + train - 1]
+    _label(sheet, x, f"train {train}", f"{len(cars)} of {night.lengths[train - 1]}")
+    _cars(sheet, x + LABEL, cars, BARE, moved, story.out_of_order() if stage == story.plan.steps else ())
+    return max(_depth(sheet, len(cars), BARE), LOWEST)
 
 
 def _stage(sheet: Sheet, stage: int) -> None:
     """The yard at a stage, and what the next step pulls."""
     story = sheet.story
     moved = [car for cut in story.cuts(stage) for car in cut.cars] if stage else []
-    next_step = f"; step {stage} pulls track {stage % story.plan.night.tracks}" if stage in story.pulls else ""
+    pulled = stage % story.plan.night.tracks if stage in story.pulls else None
+    next_step = "" if pulled is None else f"; step {stage} pulls track {pulled}"
     sheet.heading(f"Stage {stage}, {story.yards[stage].passes} passes{next_step}")
     for track in range(story.plan.night.tracks):
-        _sorting_track(sheet, stage, track, moved)
+        if track == pulled:
+            _pulled_track(sheet, stage, moved)
+        else:
+            _sorting_track(sheet, stage, track, moved)
     sheet.drawn.append(f'<path d="M{MARGIN} {sheet.y}H{sheet.width - MARGIN}" stroke="#999" stroke-dasharray="2 4"/>')
     sheet.y += 6
     _trains(sheet, stage, moved)
 
 
-def _legend(sheet: Sheet) -> None:
-    """The trains with their colours, and what the signs mean."""
-    lengths, across = sheet.story.plan.night.lengths, 150
+def _colours(sheet: Sheet) -> None:
+    """Each train with its colour and its cars."""
+    across, first = 156, 1
     beside = max(1, (sheet.width - 2 * MARGIN) // across)
-    sheet.y += 12
-    first = 1
+    lengths = sheet.story.plan.night.lengths
     for at, length in enumerate(lengths):
-        x = MARGIN + at % beside * across
-        sheet.box(x, sheet.y, at + 1, "")
+        x, y = MARGIN + at % beside * across, sheet.y + at // beside * (sheet.scale.height + 4)
+        sheet.box(x, y, at + 1, "")
         cars = f"car {first}" if length == 1 else f"cars {first}-{first + length - 1}"
-        sheet.text(x + sheet.scale.width + 4, sheet.y + 14, f"train {at + 1}: {cars}", 'font-size="11"')
+        sheet.text(x + sheet.scale.width + 4, y + 14, f"train {at + 1}: {cars}", 'font-size="11"')
         first += length
-        if at % beside == beside - 1 or at == len(lengths) - 1:
-            sheet.y += sheet.scale.height + 4
+    sheet.y += -(-len(lengths) // beside) * (sheet.scale.height + 4)
+
+
+def _legend(sheet: Sheet) -> None:
+    """The colours, and what the signs mean."""
+    sheet.y += 12
+    _colours(sheet)
     names = "" if sheet.scale.in_full else " (S0 is track 0, T1 is train 1)"
-    sheet.paragraph(f"Front of each track on the left. Yellow row: the track that the next step pulls; below its cars, where they roll{names}. "
-                    "Thick frame: has just rolled in. Grey: room.", 12, 'fill="#555"')
+    signs = [
+        "The front of each track is on the left; grey is its room.",
+        f"Yellow: the track that the next step pulls, and below its cars where they roll{names}.",
+        "Thick frame: has just rolled in.",
+        "Red frame and !: stands wrong." if sheet.story.refusal else "",
+    ]
+    sheet.paragraph(" ".join(filter(None, signs)), 12, 'fill="#555"')
 
 
 def _title(story: Story) -> str:

@@ -28,9 +28,6 @@ class Show(unittest.TestCase):
     def test_case_1(self):
         self.said(altairpeg("show", "-", card=CASE_1), 0, (HERE / "case_1.txt").read_text(), "")
 
-    def test_no_name_is_standard_input(self):
-        self.assertEqual(altairpeg("show", card=CASE_1).stdout, altairpeg("show", "-", card=CASE_1).stdout)
-
     def test_brief(self):
         told = (
             "steps 2 tracks 2 room 3 cars 6 trains 1 passes 11\n"
@@ -39,16 +36,16 @@ class Show(unittest.TestCase):
             "train 1: 1 2 3 4 5 6\n"
             "check: accepted, 11 passes, fullest pull 3\n"
         )
-        self.said(altairpeg("show", "--brief", card=CASE_1), 0, told, "")
+        self.said(altairpeg("show", "--brief", "-", card=CASE_1), 0, told, "")
 
     def test_refused_card(self):
         self.said(altairpeg("show", "-"), 1, "", "refused 10 1 0: card too short (1 bytes needed, as far as known)\n")
 
     def test_refusal_line_in_place_of_a_card(self):
-        self.said(altairpeg("show", card=b"refused 5 3 0\n"), 1, "", "refused 5 3 0: fewest steps above the limit (fewest steps 3)\n")
+        self.said(altairpeg("show", "-", card=b"refused 5 3 0\n"), 1, "", "refused 5 3 0: fewest steps above the limit (fewest steps 3)\n")
 
     def test_overfilled(self):
-        run = altairpeg("show", card=OVERFILLED)
+        run = altairpeg("show", "-", card=OVERFILLED)
         self.assertEqual(run.returncode, 1)
         self.assertTrue(run.stdout.decode().endswith(
             "stage 0, 6 passes\n  track 0 | 3 6 4!\n  track 1 | 5\n  train 1 | 1 2\n\n"
@@ -56,14 +53,14 @@ class Show(unittest.TestCase):
             "check: refused 6 0 3: a track overfilled (step 0, 3 cars)\n"), run.stdout.decode())
 
     def test_early(self):
-        run = altairpeg("show", card=EARLY)
+        run = altairpeg("show", "-", card=EARLY)
         self.assertEqual(run.returncode, 1)
         self.assertTrue(run.stdout.decode().endswith(
             "step 0 pulls track 0: 3 6 4!\n  ! too early for car 4: a code with 0 at step 0\n\n"
             "check: refused 8 4 0: a car pulled early (car 4, step 0)\n"), run.stdout.decode())
 
     def test_out_of_order(self):
-        run = altairpeg("show", card=OUT_OF_ORDER)
+        run = altairpeg("show", "-", card=OUT_OF_ORDER)
         self.assertEqual(run.returncode, 1)
         self.assertTrue(run.stdout.decode().endswith(
             "trains as built\n  train 1: 3! 1 2 4 5 6\n    ! out of order: car 3 stands before car 2\n\n"
@@ -88,7 +85,7 @@ class Show(unittest.TestCase):
     def test_width_of_the_terminal(self):
         plan = many(8, 64)
         for columns in (60, 100):
-            lines = altairpeg("show", card=plan, columns=columns).stdout.decode().splitlines()
+            lines = altairpeg("show", "-", card=plan, columns=columns).stdout.decode().splitlines()
             self.assertTrue(columns - 10 < max(map(len, lines)) <= columns)
 
 
@@ -102,16 +99,16 @@ class Files(unittest.TestCase):
 
     def test_cards_that_are_none(self):
         for data in (b"\x12", b"\xff" * 5000, bytes(100000), b"refused", b"refused 5 3", "refused ٣ 1 1".encode(), b"\x12\x20"):
-            run = altairpeg("show", card=data)
+            run = altairpeg("show", "-", card=data)
             self.assertEqual((run.returncode, run.stdout, run.stderr[:8]), (1, b"", b"refused "), data[:20])
 
     def test_an_input_without_end(self):
         with open("/dev/zero", "rb") as endless:
-            self.assertEqual(altairpeg("show", input=None, stdin=endless).returncode, 1)
+            self.assertEqual(altairpeg("show", "-", input=None, stdin=endless).returncode, 1)
 
     def test_full_device(self):
         with open("/dev/full", "wb") as full:
-            run = altairpeg("show", card=CASE_1, capture_output=False, stdout=full, stderr=subprocess.PIPE)
+            run = altairpeg("show", "-", card=CASE_1, capture_output=False, stdout=full, stderr=subprocess.PIPE)
         self.assertEqual(run.returncode, 2)
         self.assertEqual(len(run.stderr.splitlines()), 1, run.stderr)
 
@@ -124,7 +121,7 @@ class Files(unittest.TestCase):
         self.assertEqual((run.stdout, run.stderr), (b"", b""))
 
     def test_wrong_usage(self):
-        for words in (["show", "a", "b"], ["show", "--what"], ["show", "--brief", "--svg", "x", "-"], ["show", "--svg"]):
+        for words in (["show", "a", "b"], ["show", "--what"], ["show", "--brief", "--svg", "x", "-"], ["show", "--svg", "x"], ["show"]):
             self.assertEqual(altairpeg(*words).returncode, 2)
 
 
