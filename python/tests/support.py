@@ -34,9 +34,10 @@ def told(refusal):
 
 
 def python(*arguments, **options):
-    """Runs Python with this package, in a process of its own; `set` adds to the environment."""
+    """Runs Python with this package, in a process of its own and from another folder; `set` adds to the environment."""
     environment = {**os.environ, "PYTHONPATH": str(PYTHON), **options.pop("set", {})}
-    return subprocess.run([sys.executable, *map(os.fspath, arguments)], capture_output=True, env=environment, **options)
+    command = [sys.executable, *map(os.fspath, arguments)]
+    return subprocess.run(command, env=environment, cwd=os.sep, **{"capture_output": True, **options})
 
 
 def altairpeg(*arguments, **options):
