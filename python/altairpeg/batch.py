@@ -158,7 +158,7 @@ def _mapped(jobs: int) -> Iterator[Callable[..., Iterable[Row]]]:
     # An interrupt ends the table here; the processes would each add a trace of their own.
     executor = ProcessPoolExecutor(jobs, initializer=signal.signal, initargs=(signal.SIGINT, signal.SIG_IGN))
     try:
-        yield partial(executor.map, chunksize=CHUNK)
+        yield lambda call, names: executor.map(call, names, chunksize=CHUNK)
     except BrokenProcessPool:
         raise AltairpegError("a process of the batch has ended too early, so the table isn't whole") from None
     finally:

@@ -28,16 +28,19 @@ def main(arguments: Sequence[str] | None = None) -> int:
     given = _parser().parse_args(arguments)
     if sys.stdout is None:
         return _told("altairpeg: standard output is closed", WRONG)
-    sys.stdout.reconfigure(errors="surrogateescape")  # type: ignore[union-attr]  # a file's name may be any bytes
+    sys.stdout.reconfigure(errors="surrogateescape")  # type: ignore[attr-defined]  # a file's name may be any bytes
+    status = _status(given)
+    return status if _flushed() else WRONG
+
+
+def _status(given: argparse.Namespace) -> int:
+    """Runs a command; a refusal or an error is said in a line."""
     try:
-        status = int(given.run(given))
-        sys.stdout.flush()
-        return status
+        return int(given.run(given))
     except Refusal as refusal:
         return _told(refusal, REFUSED)
     except BrokenPipeError:
-        _leave_pipe()
-        return WRONG
+        return WRONG  # whoever read standard output is gone, and wants no word
     except (AltairpegError, OSError, UnicodeError) as trouble:
         return _told(f"altairpeg: {trouble}", WRONG)
     except KeyboardInterrupt:
@@ -51,9 +54,16 @@ def _told(trouble: object, status: int) -> int:
     return status
 
 
-def _leave_pipe() -> None:
-    """Whoever read standard output is gone: what Python still holds for it goes nowhere, without a word."""
-    os.dup2(os.open(os.devnull, os.O_WRONLY), sys.stdout.fileno())
+def _flushed() -> bool:
+    """Whether all of standard output went out; what didn't goes nowhere, or Python would try once more at its end."""
+    try:
+        sys.stdout.flush()
+        return True
+    except OSError as trouble:
+        if not isinstance(trouble, BrokenPipeError):
+            _told(f"altairpeg: standard output: {trouble.strerror}", WRONG)
+        os.dup2(os.open(os.devnull, os.O_WRONLY), sys.stdout.fileno())
+        return False
 
 
 def _parser() -> argparse.ArgumentParser:

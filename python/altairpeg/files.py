@@ -23,7 +23,8 @@ def read_plan(name: str) -> Plan:
     data = standard_input(CARD_BYTES + 1) if name == "-" else card_bytes(name)
     line = _REFUSED.fullmatch(data)
     if line:
-        raise Refusal(*map(int, line.groups()))
+        number, a, b = map(int, line.groups())
+        raise Refusal(number, a, b)
     return read_card(data)
 
 
@@ -36,14 +37,12 @@ def standard_input(most: int = -1) -> bytes:
 
 def keep(name: str, card: bytes) -> None:
     """Writes a card."""
+    if name == "-":
+        sys.stdout.buffer.write(card)
+        return
     try:
-        if name == "-":
-            sys.stdout.buffer.write(card)
-        else:
-            with open(name, "wb") as file:
-                file.write(card)
-    except BrokenPipeError:
-        raise
+        with open(name, "wb") as file:
+            file.write(card)
     except OSError as trouble:
         raise FileError(trouble.errno, trouble.strerror, name) from None
 

@@ -45,4 +45,5 @@ def place(number: int, a: int, given: dict[str, Any]) -> str | None:
 
 def _item(items: Iterable[Any], place: int) -> int:
     """The item at a place, by iteration: what stands in brackets may count by labels."""
-    return index(next(islice(items, place, None), None))
+    (item,) = islice(items, place, place + 1)
+    return index(item)

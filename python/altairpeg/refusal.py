@@ -5,7 +5,7 @@ from __future__ import annotations
 from .errors import AltairpegError
 from .words import DETAILS, NAMES, UNKNOWN, WORDS
 
-_UNKNOWN_DETAILS = {None: "A {a}, B {b}"}
+_UNKNOWN_DETAILS: dict[int | None, str] = {None: "A {a}, B {b}"}
 
 
 def _details(number: int, a: int, b: int) -> str:
