@@ -6,7 +6,7 @@ import unittest
 from altairpeg import Night, Plan, Refusal, check
 from altairpeg.story import plain_yards, tell
 
-from cards import EARLY, OUT_OF_ORDER, OVERFILLED
+from drawings import EARLY, OUT_OF_ORDER, OVERFILLED
 
 PLANS = 3000
 

@@ -1,7 +1,6 @@
 """The picture: well-formed, complete, and readable by its numbers; the README's is current."""
 
 import re
-import tempfile
 import unittest
 from pathlib import Path
 from xml.etree import ElementTree
@@ -10,10 +9,10 @@ from altairpeg import Night, Plan, read_card
 from altairpeg.story import tell
 from altairpeg.svg import COLOURS, band, contrast, fill, number_colour, picture
 
-from cards import CASE_1, EARLY, HERE, OUT_OF_ORDER, OVERFILLED, altairpeg
-from test_show import many
+from drawings import EARLY, OUT_OF_ORDER, OVERFILLED, many, show
+from support import CARD, PYTHON, Scratch
 
-KEPT = HERE.parent.parent / "docs" / "first-card.svg"
+KEPT = PYTHON.parent / "docs" / "first-card.svg"
 NAME = "{http://www.w3.org/2000/svg}"
 TRAINS = range(1, 65)
 
@@ -25,17 +24,17 @@ def words(drawn):
 
 class Picture(unittest.TestCase):
     def test_kept_picture_is_current(self):
-        self.assertEqual(KEPT.read_text(), picture(tell(read_card(CASE_1))), "make it anew: python3 -m altairpeg show --svg ../docs/first-card.svg CARD, in python/")
+        self.assertEqual(KEPT.read_text(), picture(tell(read_card(CARD))), "make it anew: python3 -m altairpeg show --svg ../docs/first-card.svg CARD, in python/")
 
     def test_case_1_in_words(self):
-        told = words(picture(tell(read_card(CASE_1))))
+        told = words(picture(tell(read_card(CARD))))
         self.assertEqual(told[0], "A night of 6 cars and 1 train, stage by stage")
         self.assertIn("train 1: cars 1-6", told)
         for line in ("Stage 0, 6 passes; step 0 pulls track 0", "Stage 1, 9 passes; step 1 pulls track 1", "Stage 2, 11 passes", "Accepted: 11 passes, fullest pull 3"):
             self.assertIn(line, told)
 
     def test_each_stage_has_each_car(self):
-        for plan in (read_card(CASE_1), many(4, 15), many(8, 64)):
+        for plan in (read_card(CARD), many(4, 15), many(8, 64)):
             told = words(picture(tell(plan)))
             for car in plan.night.inbound:
                 self.assertEqual(told.count(str(car)), plan.steps + 2, "once inbound, and once at each stage")
@@ -75,45 +74,37 @@ class Colours(unittest.TestCase):
             self.assertGreaterEqual(contrast(number_colour(train), fill(train)), 4.5)
 
 
-class Command(unittest.TestCase):
-    def setUp(self):
-        scratch = tempfile.TemporaryDirectory()
-        self.addCleanup(scratch.cleanup)
-        self.folder = Path(scratch.name)
-
-    def drawn(self, name, **given):
-        return altairpeg("show", "--svg", str(name), "-", **{"card": CASE_1, **given})
+class Command(Scratch):
+    def drawn(self, name, given=CARD):
+        return show(given, "--svg", name)
 
     def test_file_and_standard_output(self):
-        run = self.drawn(self.folder / "a picture.svg")
-        self.assertEqual((run.returncode, run.stdout, run.stderr), (0, b"", b""))
+        self.ran(self.drawn(self.folder / "a picture.svg"), 0)
         self.assertEqual(self.drawn("-").stdout, (self.folder / "a picture.svg").read_bytes())
         self.assertEqual([file.name for file in self.folder.iterdir()], ["a picture.svg"])
 
     def test_refused_plan_is_drawn_and_told(self):
-        run = self.drawn(self.folder / "x.svg", card=OVERFILLED)
-        self.assertEqual((run.returncode, run.stderr), (1, b"check: refused 6 0 3: a track overfilled (step 0, 3 cars)\n"))
+        self.ran(self.drawn(self.folder / "x.svg", OVERFILLED), 1, err="check: refused 6 0 3: a track overfilled (step 0, 3 cars)\n")
         ElementTree.parse(self.folder / "x.svg")
 
     def test_refused_card_leaves_the_old_picture(self):
-        (self.folder / "x.svg").write_text("old")
-        self.assertEqual(self.drawn(self.folder / "x.svg", card=b"").returncode, 1)
-        self.assertEqual((self.folder / "x.svg").read_text(), "old")
+        old = self.file("x.svg", b"old")
+        self.assertEqual(self.drawn(old, b"").returncode, 1)
+        self.assertEqual(old.read_bytes(), b"old")
 
     def test_link_is_followed_and_mode_kept(self):
-        (self.folder / "x.svg").write_text("old")
-        (self.folder / "x.svg").chmod(0o640)
-        (self.folder / "link").symlink_to("x.svg")
-        self.assertEqual(self.drawn(self.folder / "link").returncode, 0)
-        self.assertTrue((self.folder / "link").is_symlink())
-        self.assertEqual((self.folder / "x.svg").stat().st_mode & 0o777, 0o640)
-        ElementTree.parse(self.folder / "x.svg")
+        old, link = self.file("x.svg", b"old"), self.folder / "link"
+        old.chmod(0o640)
+        link.symlink_to(old.name)
+        self.ran(self.drawn(link), 0)
+        self.assertTrue(link.is_symlink())
+        self.assertEqual(old.stat().st_mode & 0o777, 0o640)
+        ElementTree.parse(old)
 
     def test_places_that_take_no_picture(self):
         for name in (self.folder, self.folder / "none" / "x.svg", "/dev/full"):
             run = self.drawn(name)
-            self.assertEqual((run.returncode, run.stdout), (2, b""), name)
-            self.assertEqual(len(run.stderr.splitlines()), 1, run.stderr)
+            self.assertEqual((run.returncode, run.stdout, len(run.stderr.splitlines())), (2, b"", 1), run.stderr)
             self.assertIn(str(name).encode(), run.stderr)
         self.assertEqual(list(self.folder.iterdir()), [])
         self.assertTrue(Path("/dev/full").is_char_device())
