@@ -8,6 +8,7 @@ stand-in takes the prover's place: it notes each call and copies the built progr
 
 from __future__ import annotations
 
+import fcntl
 import os
 import shutil
 import subprocess
@@ -329,8 +330,30 @@ class Prover(Checkout):
         self.assertEqual([run.returncode for run in runs], [0] * 5, said)
         self.assertEqual([out.decode() for out, _ in said], [SHOWN] * 5)
         self.assertEqual(self.calls(), BUILDS, "the prover ran more than once, or twice at the same time")
-        self.assertEqual(sum(b"plan: waiting for another ./plan" in err for _, err in said), 4)
+        self.assertEqual(sum(b"plan: waiting for another ./plan in this checkout\n" in err for _, err in said), 4)
         self.assertEqual({(self.scratch / f"kept {number}").read_bytes() for number in range(5)}, {CARD})
+
+    def test_nobody_runs_what_is_being_built(self):
+        """One that finds all current while another builds waits for it, and one that builds waits for those that run."""
+        lock = self.here / "target" / "plan.lock"
+        lock.touch()
+        for kind, current in ((fcntl.LOCK_EX, True), (fcntl.LOCK_SH, False)):
+            if not current:
+                (self.here / "crates.txt").touch()
+            with open(lock) as held:
+                fcntl.flock(held, kind)
+                run = self.start(self.card)
+                self.assertEqual(run.stderr.readline(), b"plan: waiting for another ./plan in this checkout\n")
+                self.assertEqual((run.poll(), self.calls()), (None, []))
+            self.assertEqual(run.communicate()[0].decode(), SHOWN)
+        self.assertEqual(self.calls(), BUILDS)
+
+    def test_those_that_run_share_the_lock(self):
+        lock = self.here / "target" / "plan.lock"
+        lock.touch()
+        with open(lock) as held:
+            fcntl.flock(held, fcntl.LOCK_SH)
+            self.assertEqual(self.plan(self.card), (0, SHOWN, ""))
 
     def test_the_prover_outlives_its_plan(self):
         """Whoever comes next waits for a prover that still works, though the ./plan that started it was killed."""
@@ -398,6 +421,10 @@ class ReadOnly(Checkout):
         before = listing(self.here)
         self.assertEqual(self.shielded(), (0, SHOWN, ""))
         self.assertEqual(listing(self.here), before)
+
+    def test_no_cache_either(self):
+        self.environment["XDG_CACHE_HOME"] = "/dev/null/cache"
+        self.assertEqual(self.shielded(), (0, SHOWN, ""))
 
     def test_not_built(self):
         self.drop_built()
