@@ -1,6 +1,7 @@
 /* Altairpeg: multistage sorting plans derived, checked, replayed, priced and stored on night cards.
  *
- * Link with target/staticlib/libaltairpeg.a, which `rt staticlib altairpeg` makes.
+ * Link with libaltairpeg.a, which `rt staticlib altairpeg` writes to target/staticlib/, or with what `make install` puts in
+ * place, archive or shared object.
  *
  * A night: the lengths of the outbound trains, the inbound order of the cars, the sorting tracks and the room on each.
  * A plan: a night, its steps h, and one code for each car, in car order, a number below 2^h: bit k set means that the

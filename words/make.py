@@ -18,7 +18,7 @@ WIDTH = 120
 
 
 class Row(NamedTuple):
-    """A number, its constant's name, its words, what A and B are, and the words of the details by A (None: any other)."""
+    """A number, its constant's name, its words, what A and B are, and the details' words by A (None: any other)."""
 
     number: int
     name: str
@@ -50,6 +50,8 @@ def meaning_of(told, details):
 
 def row_of(line):
     """A row of the table."""
+    if line.count("\t") != 4:
+        sys.exit(f"{TABLE.name}: not five columns: {line}")
     number, name, words, told, entries = line.split("\t")
     details = details_of(entries)
     return Row(key(number), name, words, meaning_of(told, details), details)
@@ -100,7 +102,8 @@ def number_enum(rows):
 def between(text, mark, made):
     """The text with these lines between the two that carry the mark."""
     lines = text.split("\n")
-    first, last = (next(i for i, line in enumerate(lines) if sign in line) for sign in (f"[{mark}, {MADE}]", f"[end of {mark}]"))
+    first = next(i for i, line in enumerate(lines) if f"[{mark}, {MADE}]" in line)
+    last = next(i for i, line in enumerate(lines) if f"[end of {mark}]" in line)
     return "\n".join([*lines[: first + 1], *made, *lines[last:]])
 
 
@@ -119,15 +122,20 @@ def rust_text(words):
     return f"format!({quoted(words)})" if "{" in words else f"{quoted(words)}.to_string()"
 
 
+def refusals(rows):
+    """The rows that refuse: all but done."""
+    return [row for row in rows if row.number != 0]
+
+
 def rust_enum(rows, other):
-    """The kinds of refusal; 0 is none."""
+    """The kinds of refusal."""
     yield "/// Why a call refused, by document 01's numbers."
     yield "///"
     yield "/// Later papers add numbers, so a `match` needs an arm for all others."
     yield "#[non_exhaustive]"
     yield "#[derive(Clone, Copy, Debug, PartialEq, Eq, Hash)]"
     yield "pub enum Kind {"
-    for row in rows[1:]:
+    for row in refusals(rows):
         yield f"    /// {row.number}: {row.words}. {row.meaning}."
         yield f"    {row.camel()},"
     yield f"    /// Any other: {other.words}."
@@ -135,10 +143,12 @@ def rust_enum(rows, other):
     yield "}"
 
 
-def rust_match(head, arms):
+def rust_match(title, head, on, arms):
     """A function that is one match."""
     yield ""
-    yield from head
+    yield f"/// {title}"
+    yield f"pub(crate) fn {head} {{"
+    yield f"    match {on} {{"
     yield from (f"        {arm}," for arm in arms)
     yield "    }"
     yield "}"
@@ -155,19 +165,19 @@ def rust(rows, other, _old):
     """The module of the Rust crate."""
     lines = [f"//! The numbers of document 01 and their words, {MADE}.", ""]
     lines += rust_enum(rows, other)
-    kinds = [f"{row.number} => Kind::{row.camel()}" for row in rows[1:]] + [f"_ => Kind::{other.camel()}"]
-    lines += rust_match(["/// The kind of a number.", "pub(crate) fn kind(number: usize) -> Kind {", "    match number {"], kinds)
+    kinds = [f"{row.number} => Kind::{row.camel()}" for row in refusals(rows)] + [f"_ => Kind::{other.camel()}"]
+    lines += rust_match("The kind of a number.", "kind(number: usize) -> Kind", "number", kinds)
     words = [f"{row.number} => {quoted(row.words)}" for row in rows] + [f"_ => {quoted(other.words)}"]
-    lines += rust_match(["/// The words of a number.", "pub(crate) fn words(number: usize) -> &'static str {", "    match number {"], words)
+    lines += rust_match("The words of a number.", "words(number: usize) -> &'static str", "number", words)
     details = [arm for row in rows for arm in rust_details(row, other)] + [f"_ => {rust_text(other.details[None])}"]
-    head = ["/// The words of the details.", "pub(crate) fn details(number: usize, a: usize, b: usize) -> String {", "    match (number, a) {"]
-    lines += rust_match(head, details)
+    head = "details(number: usize, a: usize, b: usize) -> String"
+    lines += rust_match("The words of the details.", head, "(number, a)", details)
     return "\n".join(lines) + "\n"
 
 
-def python_dict(name, kind, entries):
-    """A table of the Python module."""
-    return ["", f"{name}: {kind} = {{", *(f"    {number}: {value}," for number, value in entries), "}"]
+def python_dict(name, kind, rows, told):
+    """A table of the Python module: what is told of each row, by number."""
+    return [f"{name}: {kind} = {{", *(f"    {row.number}: {told(row)}," for row in rows), "}"]
 
 
 def python_details(row):
@@ -178,11 +188,11 @@ def python_details(row):
 def python(rows, other, _old):
     """The module of the Python package."""
     lines = [f'"""The numbers of document 01 and their words, {MADE}."""', "", "from __future__ import annotations", ""]
-    lines += [f"UNKNOWN = {quoted(other.words)}"]
-    lines += python_dict("NAMES", "dict[int, str]", ((row.number, quoted(row.name)) for row in rows))
-    lines += python_dict("WORDS", "dict[int, str]", ((row.number, quoted(row.words)) for row in rows))
-    lines += ["", "# The words of the details by A, None for every other A; {a} and {b} are the details themselves."]
-    lines += python_dict("DETAILS", "dict[int, dict[int | None, str]]", ((row.number, python_details(row)) for row in rows))[1:]
+    lines += [f"UNKNOWN = {quoted(other.words)}", ""]
+    lines += python_dict("NAMES", "dict[int, str]", rows, lambda row: quoted(row.name)) + [""]
+    lines += python_dict("WORDS", "dict[int, str]", rows, lambda row: quoted(row.words)) + [""]
+    lines += ["# The words of the details by A, None for every other A; {a} and {b} are the details themselves."]
+    lines += python_dict("DETAILS", "dict[int, dict[int | None, str]]", rows, python_details)
     return "\n".join(lines) + "\n"
 
 
