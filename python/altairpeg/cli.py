@@ -15,8 +15,9 @@ from typing import Any, Sequence
 from . import __version__, batch, make, show
 from .calls import check, derive, price, write_card
 from .errors import AltairpegError, InputError
-from .files import CARD_HELP, headline, keep, read_plan
+from .files import CARD_HELP, headline, read_plan
 from .nights import Plan
+from .output import write_whole
 from .refusal import Refusal
 
 DONE, REFUSED, WRONG = 0, 1, 2
@@ -75,8 +76,7 @@ def _parser() -> argparse.ArgumentParser:
     _register_derive(commands)
     _register_check(commands)
     _register_price(commands)
-    # show.py brings a register of its own; until it does, its drawing goes out as it is.
-    getattr(show, "register", _register_show)(commands)
+    show.register(commands)
     batch.register(commands)
     return parser
 
@@ -94,7 +94,7 @@ def _derive(given: argparse.Namespace) -> int:
     """Prints the derived plan, or writes its card."""
     derived = derive(read_plan(given.card).night, given.limit)
     if given.output is not None:
-        keep(given.output, write_card(derived.plan))
+        write_whole(given.output, write_card(derived.plan))
     if given.output != "-":
         print(headline(derived.plan), "passes", derived.passes)
         print("codes", *derived.codes)
@@ -148,19 +148,6 @@ def _seconds(text: str) -> Decimal:
         return Decimal(text)
     except InvalidOperation:
         raise argparse.ArgumentTypeError(f"{text!r} is not a number of seconds") from None
-
-
-def _register_show(commands: Any) -> None:
-    """show CARD"""
-    parser = commands.add_parser("show", help="draw the yard of a night card, stage by stage")
-    parser.add_argument("card", metavar="CARD", help=CARD_HELP)
-    parser.set_defaults(run=_show)
-
-
-def _show(given: argparse.Namespace) -> int:
-    """Prints the drawing."""
-    sys.stdout.write(show.draw(read_plan(given.card)))
-    return DONE
 
 
 if __name__ == "__main__":
