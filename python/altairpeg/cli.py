@@ -9,6 +9,7 @@ from __future__ import annotations
 import argparse
 import os
 import sys
+import traceback
 from decimal import Decimal, InvalidOperation
 from typing import Any, Sequence
 
@@ -46,6 +47,9 @@ def _status(given: argparse.Namespace) -> int:
         return _told(f"altairpeg: {trouble}", WRONG)
     except KeyboardInterrupt:
         return INTERRUPTED
+    except Exception:
+        traceback.print_exc()  # a fault of this program; Python's own status for it, 1, is kept for refusals
+        return WRONG
 
 
 def _told(trouble: object, status: int) -> int:
