@@ -15,9 +15,10 @@ from typing import Any, Callable, Iterable, Iterator, NamedTuple
 
 from .calls import check, derive, write_card
 from .errors import AltairpegError, FileError, InputError
-from .files import keep, read_plan
+from .files import read_plan
 from .library import library
 from .nights import Plan
+from .output import write_whole
 from .refusal import Refusal
 
 # As many cards go to a process at once; fewer are not worth a process.
@@ -101,7 +102,7 @@ def _derived(task: Task, name: str, plan: Plan) -> Plan:
     """The plan derived anew, and kept where that is asked for."""
     derived = derive(plan.night, task.limit).plan
     if task.output is not None:
-        keep(os.path.join(task.output, name), write_card(derived))
+        write_whole(os.path.join(task.output, name), write_card(derived))
     return derived
 
 

@@ -9,14 +9,16 @@ from __future__ import annotations
 import argparse
 import os
 import sys
+import traceback
 from decimal import Decimal, InvalidOperation
 from typing import Any, Sequence
 
 from . import __version__, batch, make, show
 from .calls import check, derive, price, write_card
 from .errors import AltairpegError, InputError
-from .files import CARD_HELP, headline, keep, read_plan
+from .files import CARD_HELP, headline, read_plan
 from .nights import Plan
+from .output import write_whole
 from .refusal import Refusal
 
 DONE, REFUSED, WRONG = 0, 1, 2
@@ -45,6 +47,9 @@ def _status(given: argparse.Namespace) -> int:
         return _told(f"altairpeg: {trouble}", WRONG)
     except KeyboardInterrupt:
         return INTERRUPTED
+    except Exception:
+        traceback.print_exc()  # a fault of this program; Python's own status for it, 1, is kept for refusals
+        return WRONG
 
 
 def _told(trouble: object, status: int) -> int:
@@ -75,8 +80,7 @@ def _parser() -> argparse.ArgumentParser:
     _register_derive(commands)
     _register_check(commands)
     _register_price(commands)
-    # show.py brings a register of its own; until it does, its drawing goes out as it is.
-    getattr(show, "register", _register_show)(commands)
+    show.register(commands)
     batch.register(commands)
     return parser
 
@@ -94,7 +98,7 @@ def _derive(given: argparse.Namespace) -> int:
     """Prints the derived plan, or writes its card."""
     derived = derive(read_plan(given.card).night, given.limit)
     if given.output is not None:
-        keep(given.output, write_card(derived.plan))
+        write_whole(given.output, write_card(derived.plan))
     if given.output != "-":
         print(headline(derived.plan), "passes", derived.passes)
         print("codes", *derived.codes)
@@ -148,19 +152,6 @@ def _seconds(text: str) -> Decimal:
         return Decimal(text)
     except InvalidOperation:
         raise argparse.ArgumentTypeError(f"{text!r} is not a number of seconds") from None
-
-
-def _register_show(commands: Any) -> None:
-    """show CARD"""
-    parser = commands.add_parser("show", help="draw the yard of a night card, stage by stage")
-    parser.add_argument("card", metavar="CARD", help=CARD_HELP)
-    parser.set_defaults(run=_show)
-
-
-def _show(given: argparse.Namespace) -> int:
-    """Prints the drawing."""
-    sys.stdout.write(show.draw(read_plan(given.card)))
-    return DONE
 
 
 if __name__ == "__main__":

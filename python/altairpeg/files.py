@@ -1,4 +1,4 @@
-"""Cards that the command line reads and writes: files, or - for standard input and output."""
+"""Cards that the command line reads: files, or - for standard input."""
 
 from __future__ import annotations
 
@@ -33,18 +33,6 @@ def standard_input(most: int = -1) -> bytes:
     if sys.stdin is None:
         raise FileError(errno.EBADF, os.strerror(errno.EBADF), "-")
     return sys.stdin.buffer.read(most)
-
-
-def keep(name: str, card: bytes) -> None:
-    """Writes a card."""
-    if name == "-":
-        sys.stdout.buffer.write(card)
-        return
-    try:
-        with open(name, "wb") as file:
-            file.write(card)
-    except OSError as trouble:
-        raise FileError(trouble.errno, trouble.strerror, name) from None
 
 
 def headline(plan: Plan) -> str:

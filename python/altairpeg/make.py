@@ -10,8 +10,9 @@ from typing import Any
 
 from .calls import derive, write_card
 from .errors import FileError, InputError, shown
-from .files import headline, keep, standard_input
+from .files import headline, standard_input
 from .nights import Night, Plan
+from .output import write_whole
 
 NIGHT = Night._fields
 CODES = ("steps", "codes")
@@ -44,7 +45,7 @@ def run(given: argparse.Namespace) -> int:
     card = write_card(plan)
     if given.output is None and sys.stdout.isatty():
         raise InputError("a card is bytes: give -o FILE, or send standard output to a file")
-    keep("-" if given.output is None else given.output, card)
+    write_whole("-" if given.output is None else given.output, card)
     if given.output not in (None, "-"):
         print(f"{given.output}: {len(card)} bytes,", headline(plan))
     return 0

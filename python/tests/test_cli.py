@@ -8,7 +8,7 @@ import unittest
 
 import altairpeg as package
 from altairpeg import Plan, write_card
-from support import CARD, CODES, DISORDERED, INBOUND, PYTHON, SHORT, Scratch, altairpeg, n
+from support import CARD, CODES, DISORDERED, INBOUND, PYTHON, SHORT, Scratch, altairpeg, n, python
 
 NIGHT = ("--lengths", "6", "--inbound", "3,6,1,5,2,4", "--tracks", "2", "--room", "3")
 FIRST = {"lengths": [6], "inbound": INBOUND, "tracks": 2, "room": 3}
@@ -134,6 +134,11 @@ class Ends(Scratch):
         for command in ("card", "derive", "check", "price", "show", "batch"):
             self.assertIn(command.encode(), altairpeg("--help").stdout)
             self.assertEqual(altairpeg(command, "--help").returncode, 0)
+
+    def test_a_fault_of_the_program_is_no_refusal(self):
+        run = python("-c", "import sys; from altairpeg import cli; cli.check = len; sys.exit(cli.main(['check', '-']))", input=CARD)
+        self.assertEqual((run.stdout, run.returncode), (b"", 2))
+        self.assertIn(b"Traceback", run.stderr)
 
     def test_a_broken_pipe(self):
         reader, writer = os.pipe()

@@ -181,6 +181,12 @@ class Cards(Scratch):
         self.refused(10, 16, 0, read_card_file, self.file("short.card", SHORT))
         self.refused(12, 16, 0, read_card_file, self.file("long.card", CARD + bytes(10**6)))
 
+    def test_the_longest_card(self):
+        longest = write_card(Plan(Night([8] * 64, range(1, 513), 8, 512), 8, [255] * 512))
+        self.assertEqual(len(longest), 1237)
+        self.assertEqual(read_card_file(self.file("longest.card", longest)), read_card(longest))
+        self.refused(12, 1237, 0, read_card_file, self.file("longer.card", longest + b"\0"))
+
     def test_files_that_cannot_be_read(self):
         for path in (self.folder, self.folder / "missing.card"):
             with self.assertRaises(FileError) as caught:

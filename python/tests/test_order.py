@@ -41,9 +41,11 @@ class Drawn:
             items.append(1)
         if self.random.random() < 0.01:
             items = items * 600
-        if items and all(-(2**63) <= item < 2**63 for item in items):
-            return self.random.choice([list, tuple, lambda given: array("q", given), lambda given: memoryview(array("q", given))])(items)
-        return items
+        forms = [list, tuple]
+        for kind, bits in (("h", 15), ("q", 63)):
+            if all(-(2**bits) <= item < 2**bits for item in items):
+                forms += [lambda given, kind=kind: array(kind, given), lambda given, kind=kind: memoryview(array(kind, given))]
+        return self.random.choice(forms)(items)
 
     def night(self):
         """A night of up to nine cars."""
