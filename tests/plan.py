@@ -24,13 +24,7 @@ CARD = bytes.fromhex("12200C060203006030020280 40202D80")
 # The same night with no steps at all, and with room for two cars only.
 UNSORTED = bytes.fromhex("10200C0602030060300202804020")
 NO_ROOM = bytes.fromhex("12200806020300603002028040202D80")
-SHOWN = """\
-steps 2 tracks 2 room 3 cars 6 trains 1 passes 11
-step 0 pulls track 0: 3 6 4
-step 1 pulls track 1: 5 6
-train 1: 1 2 3 4 5 6
-check: accepted, 11 passes, fullest pull 3
-"""
+SHOWN = (ROOT / "python" / "tests" / "case_1_brief.txt").read_text()
 
 STAND_IN = r"""#!/bin/sh
 # Stands for the prover.
@@ -82,12 +76,12 @@ class Checkout(unittest.TestCase):
         }
 
     def _copy(self) -> None:
-        """Copies what ./plan needs; files keep their times."""
+        """Copies what ./plan needs, with one crate to stand for all."""
         self.here.mkdir()
         for name in ("plan", "crates.txt"):
             shutil.copy2(ROOT / name, self.here / name)
-        shutil.copytree(ROOT / "crates", self.here / "crates")
-        shutil.copytree(ROOT / "python", self.here / "python", ignore=shutil.ignore_patterns("__pycache__", "built", "build", "*.egg-info"))
+        shutil.copytree(ROOT / "crates" / "yard", self.here / "crates" / "yard")
+        shutil.copytree(ROOT / "python" / "altairpeg", self.here / "python" / "altairpeg", ignore=shutil.ignore_patterns("__pycache__"))
         for name in BUILT:
             (self.here / "target" / name).parent.mkdir(parents=True, exist_ok=True)
             shutil.copy2(ROOT / "target" / name, self.here / "target" / name)

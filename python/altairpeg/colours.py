@@ -2,7 +2,7 @@
 
 from __future__ import annotations
 
-# Okabe and Ito's colours, which people with any colour vision tell apart, with grey in place of black.
+# Okabe and Ito's colours, chosen so that colour-blind people tell them apart too, with grey in place of black.
 COLOURS = ("#56b4e9", "#e69f00", "#009e73", "#f0e442", "#0072b2", "#d55e00", "#cc79a7", "#bbbbbb")
 INK, PALE, PULLED, WRONG = "#1a1a1a", "#efefef", "#fff2cc", "#b00020"
 
