@@ -44,12 +44,19 @@ def _status(given: argparse.Namespace) -> int:
     except BrokenPipeError:
         return WRONG  # whoever read standard output is gone, and wants no word
     except (AltairpegError, OSError, UnicodeError) as trouble:
-        return _told(f"altairpeg: {trouble}", WRONG)
+        return _told(f"altairpeg: {_sentence(trouble)}", WRONG)
     except KeyboardInterrupt:
         return INTERRUPTED
     except Exception:
         traceback.print_exc()  # a fault of this program; Python's own status for it, 1, is kept for refusals
         return WRONG
+
+
+def _sentence(trouble: Exception) -> str:
+    """What is wrong; of a file, its name and the system's words without its number."""
+    if isinstance(trouble, OSError) and trouble.filename is not None:
+        return f"{os.fsdecode(trouble.filename)}: {trouble.strerror}"
+    return str(trouble)
 
 
 def _told(trouble: object, status: int) -> int:

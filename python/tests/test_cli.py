@@ -107,9 +107,9 @@ class OneCard(Scratch):
 
     def test_files_that_cannot_be_read_or_written(self):
         missing = self.folder / "missing.card"
-        self.ran(altairpeg("check", missing), 2, "", f"altairpeg: [Errno 2] No such file or directory: '{missing}'\n")
-        self.ran(altairpeg("check", self.folder), 2, "", f"altairpeg: [Errno 21] Is a directory: '{self.folder}'\n")
-        self.ran(altairpeg("derive", self.card, "-o", self.folder), 2, "", f"altairpeg: [Errno 21] Is a directory: '{self.folder}'\n")
+        self.ran(altairpeg("check", missing), 2, "", f"altairpeg: {missing}: No such file or directory\n")
+        self.ran(altairpeg("check", self.folder), 2, "", f"altairpeg: {self.folder}: Is a directory\n")
+        self.ran(altairpeg("derive", self.card, "-o", self.folder), 2, "", f"altairpeg: {self.folder}: Is a directory\n")
 
     def test_no_library(self):
         run = altairpeg("check", self.card, set={"ALTAIRPEG_ARCHIVE": str(self.folder / "missing.a")})
