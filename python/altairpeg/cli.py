@@ -27,18 +27,20 @@ INTERRUPTED = 130
 
 def main(arguments: Sequence[str] | None = None) -> int:
     """Runs a command and gives its exit status."""
-    given = _parser().parse_args(arguments)
     if sys.stdout is None:
         return _told("altairpeg: standard output is closed", WRONG)
     sys.stdout.reconfigure(errors="surrogateescape")  # type: ignore[attr-defined]  # a file's name may be any bytes
-    status = _status(given)
+    status = _status(arguments)
     return status if _flushed() else WRONG
 
 
-def _status(given: argparse.Namespace) -> int:
+def _status(arguments: Sequence[str] | None) -> int:
     """Runs a command; a refusal or an error is said in a line."""
     try:
+        given = _parser().parse_args(arguments)
         return int(given.run(given))
+    except SystemExit as ended:  # the parser has said what there is to say: help, version or usage
+        return ended.code if isinstance(ended.code, int) else DONE
     except Refusal as refusal:
         return _told(refusal, REFUSED)
     except BrokenPipeError:
