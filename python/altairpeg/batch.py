@@ -73,7 +73,7 @@ def run(given: argparse.Namespace) -> int:
     task = Task(given.folder, given.check, given.limit, given.output)
     names = _names(task.folder)
     if task.output is not None:
-        _prepare(task)
+        _prepare(task, task.output)
     library()  # once, before there are many processes that would each make the shared object
     jobs = given.jobs or len(os.sched_getaffinity(0))
     with _mapped(min(jobs, -(-len(names) // CHUNK))) as mapped:
@@ -129,16 +129,15 @@ def _names(folder: str) -> list[str]:
     return names
 
 
-def _prepare(task: Task) -> None:
+def _prepare(task: Task, output: str) -> None:
     """The folder for the new cards, which is not that of the old ones."""
-    assert task.output is not None
     if task.check:
         raise InputError("--check makes no new cards, so it has no use for --output")
     try:
-        os.makedirs(task.output, exist_ok=True)
-        same = os.path.samefile(task.folder, task.output)
+        os.makedirs(output, exist_ok=True)
+        same = os.path.samefile(task.folder, output)
     except OSError as trouble:
-        raise FileError(trouble.errno, trouble.strerror, task.output) from None
+        raise FileError(trouble.errno, trouble.strerror, output) from None
     if same:
         raise InputError("the new cards would take the place of the old ones: name another folder")
 

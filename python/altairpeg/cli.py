@@ -27,29 +27,38 @@ INTERRUPTED = 130
 
 def main(arguments: Sequence[str] | None = None) -> int:
     """Runs a command and gives its exit status."""
-    given = _parser().parse_args(arguments)
     if sys.stdout is None:
         return _told("altairpeg: standard output is closed", WRONG)
     sys.stdout.reconfigure(errors="surrogateescape")  # type: ignore[attr-defined]  # a file's name may be any bytes
-    status = _status(given)
+    status = _status(arguments)
     return status if _flushed() else WRONG
 
 
-def _status(given: argparse.Namespace) -> int:
+def _status(arguments: Sequence[str] | None) -> int:
     """Runs a command; a refusal or an error is said in a line."""
     try:
+        given = _parser().parse_args(arguments)
         return int(given.run(given))
+    except SystemExit as ended:  # the parser has said what there is to say: help, version or usage
+        return ended.code if isinstance(ended.code, int) else DONE
     except Refusal as refusal:
         return _told(refusal, REFUSED)
     except BrokenPipeError:
         return WRONG  # whoever read standard output is gone, and wants no word
     except (AltairpegError, OSError, UnicodeError) as trouble:
-        return _told(f"altairpeg: {trouble}", WRONG)
+        return _told(f"altairpeg: {_sentence(trouble)}", WRONG)
     except KeyboardInterrupt:
         return INTERRUPTED
     except Exception:
         traceback.print_exc()  # a fault of this program; Python's own status for it, 1, is kept for refusals
         return WRONG
+
+
+def _sentence(trouble: Exception) -> str:
+    """What is wrong; of a file, its name and the system's words without its number."""
+    if isinstance(trouble, OSError) and trouble.filename is not None:
+        return f"{os.fsdecode(trouble.filename)}: {trouble.strerror}"
+    return str(trouble)
 
 
 def _told(trouble: object, status: int) -> int:

@@ -58,7 +58,7 @@ def _numbers(text: str) -> list[int]:
 
 def _named(given: argparse.Namespace) -> dict[str, Any]:
     """What is given, by its name: from the options or from the JSON file, not from both."""
-    options = {name: getattr(given, name) for name in (*NIGHT, *CODES) if getattr(given, name) is not None}
+    options = {name: value for name, value in vars(given).items() if name in (*NIGHT, *CODES) and value is not None}
     if given.json is not None and options:
         raise InputError(f"--{next(iter(options))} and a JSON file don't go together")
     if given.json is not None:
@@ -81,11 +81,11 @@ def _object(name: str) -> dict[str, Any]:
 
 def _plan(named: dict[str, Any], limit: int | None) -> Plan:
     """The plan that is given, or the derived one where no codes are given."""
-    missing = [name for name in NIGHT if name not in named]
+    missing = [name for name in NIGHT if name not in named and name not in Night._field_defaults]
     foreign = [name for name in named if name not in (*NIGHT, *CODES)]
     if missing or foreign:
         raise InputError(f"{missing[0]} is missing" if missing else f"{shown(foreign[0])} is none of {', '.join((*NIGHT, *CODES))}")
-    night = Night(*(named[name] for name in NIGHT))
+    night = Night(**{name: named[name] for name in NIGHT if name in named})
     if not any(name in named for name in CODES):
         return derive(night, 8 if limit is None else limit).plan
     if limit is not None or not all(name in named for name in CODES):

@@ -37,7 +37,7 @@ def python(*arguments, **options):
     """Runs Python with this package, in a process of its own and from another folder; `set` adds to the environment."""
     environment = {**os.environ, "PYTHONPATH": str(PYTHON), **options.pop("set", {})}
     command = [sys.executable, *map(os.fspath, arguments)]
-    return subprocess.run(command, env=environment, cwd=os.sep, **{"capture_output": True, **options})
+    return subprocess.run(command, env=environment, **{"capture_output": True, "cwd": os.sep, **options})
 
 
 def altairpeg(*arguments, **options):

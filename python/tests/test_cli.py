@@ -107,9 +107,9 @@ class OneCard(Scratch):
 
     def test_files_that_cannot_be_read_or_written(self):
         missing = self.folder / "missing.card"
-        self.ran(altairpeg("check", missing), 2, "", f"altairpeg: [Errno 2] No such file or directory: '{missing}'\n")
-        self.ran(altairpeg("check", self.folder), 2, "", f"altairpeg: [Errno 21] Is a directory: '{self.folder}'\n")
-        self.ran(altairpeg("derive", self.card, "-o", self.folder), 2, "", f"altairpeg: [Errno 21] Is a directory: '{self.folder}'\n")
+        self.ran(altairpeg("check", missing), 2, "", f"altairpeg: {missing}: No such file or directory\n")
+        self.ran(altairpeg("check", self.folder), 2, "", f"altairpeg: {self.folder}: Is a directory\n")
+        self.ran(altairpeg("derive", self.card, "-o", self.folder), 2, "", f"altairpeg: {self.folder}: Is a directory\n")
 
     def test_no_library(self):
         run = altairpeg("check", self.card, set={"ALTAIRPEG_ARCHIVE": str(self.folder / "missing.a")})
@@ -144,19 +144,22 @@ class Ends(Scratch):
         reader, writer = os.pipe()
         os.close(reader)
         with os.fdopen(writer, "wb") as gone:
-            self.assertEqual(self.to(gone), (b"", 2))
+            for said, status in self.to(gone):
+                self.assertEqual((said, status), (b"", 2))
 
     @unittest.skipUnless(os.path.exists("/dev/full"), "there is no /dev/full")
     def test_a_full_disk(self):
         with open("/dev/full", "wb") as full:
-            said, status = self.to(full)
-        self.assertRegex(said, rb"^altairpeg: [^\n]*No space left on device\n$")
-        self.assertEqual(status, 2)
+            for said, status in self.to(full):
+                self.assertRegex(said, rb"^altairpeg: [^\n]*No space left on device\n$")
+                self.assertEqual(status, 2)
 
     def to(self, out):
-        """What a command says whose standard output is this, and how it ends."""
-        run = altairpeg("check", "-", input=CARD, capture_output=False, stdout=out, stderr=subprocess.PIPE)
-        return run.stderr, run.returncode
+        """What commands say whose standard output is this, and how they end; Python finds out at once or at the last."""
+        for unbuffered, commands in (("", ["check -", "derive - -o -", "--help"]), ("1", ["check -", "derive - -o -"])):
+            for command in commands:
+                run = altairpeg(*command.split(), input=CARD, capture_output=False, stdout=out, stderr=subprocess.PIPE, set={"PYTHONUNBUFFERED": unbuffered})
+                yield run.stderr, run.returncode
 
     def test_closed_streams(self):
         for closed, status in (("<&-", 2), (">&-", 2), ("2>&-", 0)):
