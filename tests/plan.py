@@ -431,7 +431,8 @@ class ReadOnly(Checkout):
         if os.geteuid() == 0:
             self.shield = ["unshare", "-m", "sh", "-c", READ_ONLY, str(self.here)]
             if shutil.which("unshare") is None or subprocess.run([*self.shield, "true"], capture_output=True).returncode != 0:
-                self.skipTest("root writes where it likes, and nothing can be mounted for reading only here")
+                print("plan: root writes where it likes and can't mount here, so no read-only checkout was tried", file=sys.stderr)
+                self.skipTest("no read-only checkout can be made")
         else:
             self.shield = []
 
