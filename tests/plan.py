@@ -24,19 +24,13 @@ CARD = bytes.fromhex("12200C060203006030020280 40202D80")
 # The same night with no steps at all, and with room for two cars only.
 UNSORTED = bytes.fromhex("10200C0602030060300202804020")
 NO_ROOM = bytes.fromhex("12200806020300603002028040202D80")
-SHOWN = """\
-steps 2 tracks 2 room 3 cars 6 trains 1 passes 11
-step 0 pulls track 0: 3 6 4
-step 1 pulls track 1: 5 6
-train 1: 1 2 3 4 5 6
-check: accepted, 11 passes, fullest pull 3
-"""
+SHOWN = (ROOT / "python" / "tests" / "case_1_brief.txt").read_text()
 
 STAND_IN = r"""#!/bin/sh
-# Stands for the prover.
+# Stands for the prover; the command in RT_GATED waits until the test lets it go on.
 echo "begin $1" >> "$RT_NOTES"
-[ -z "$RT_CHANGES" ] || { touch "$RT_CHANGES"; RT_CHANGES=''; }
-sleep 0.2
+[ -z "$RT_CHANGES" ] || { sleep 0.05; touch "$RT_CHANGES"; }
+while [ "$1" = "$RT_GATED" ] && [ ! -e "$RT_NOTES.go" ]; do sleep 0.05; done
 if [ -n "$RT_FAILS" ]; then
     echo 'rt: yard NOT PROVED (exit 1, 3 s)'
     exit 1
@@ -78,16 +72,16 @@ class Checkout(unittest.TestCase):
             **{name: value for name, value in os.environ.items() if not name.startswith(("RT_", "ALTAIRPEG_", "PYTHON"))},
             "PATH": f"{self.scratch / 'bin'}:{os.environ['PATH']}",
             "RT_NOTES": str(self.notes), "RT_BUILT": str(ROOT / "target"), "COLUMNS": "80",
-            "RT_FAILS": "", "RT_IDLE": "", "RT_CHANGES": "",
+            "RT_FAILS": "", "RT_IDLE": "", "RT_CHANGES": "", "RT_GATED": "",
         }
 
     def _copy(self) -> None:
-        """Copies what ./plan needs; files keep their times."""
+        """Copies what ./plan needs, with one crate to stand for all."""
         self.here.mkdir()
         for name in ("plan", "crates.txt"):
             shutil.copy2(ROOT / name, self.here / name)
-        shutil.copytree(ROOT / "crates", self.here / "crates")
-        shutil.copytree(ROOT / "python", self.here / "python", ignore=shutil.ignore_patterns("__pycache__", "built", "build", "*.egg-info"))
+        shutil.copytree(ROOT / "crates" / "yard", self.here / "crates" / "yard")
+        shutil.copytree(ROOT / "python" / "altairpeg", self.here / "python" / "altairpeg", ignore=shutil.ignore_patterns("__pycache__"))
         for name in BUILT:
             (self.here / "target" / name).parent.mkdir(parents=True, exist_ok=True)
             shutil.copy2(ROOT / "target" / name, self.here / "target" / name)
@@ -118,6 +112,10 @@ class Checkout(unittest.TestCase):
         run = self.start(*words, **how)
         out, err = run.communicate(data, timeout=120)
         return run.returncode, (out or b"").decode(), (err or b"").decode()
+
+    def let_go(self) -> None:
+        """Lets the stand-in go on."""
+        Path(f"{self.notes}.go").touch()
 
     def calls(self) -> list[str]:
         """The calls of the prover so far."""
@@ -264,6 +262,7 @@ class Kept(Checkout):
         self.assertTrue(pipe.is_fifo())
 
 
+WAITING = "plan: waiting for another ./plan in this checkout\n"
 BUILDS = ["begin check", "end check", "begin staticlib", "end staticlib"]
 
 
@@ -283,10 +282,12 @@ class Prover(Checkout):
 
     def test_progress_comes_as_it_is_made(self):
         self.drop_built()
+        self.environment["RT_GATED"] = "staticlib"
         run = self.start(self.card)
-        run.stderr.readline()
-        self.assertEqual((run.stderr.readline(), self.calls()[-1:] == BUILDS[-1:]), (b"plan: check proved (3 s)\n", False))
-        run.communicate()
+        self.assertEqual([run.stderr.readline() for _ in range(2)][1], b"plan: check proved (3 s)\n")
+        self.assertNotIn("end staticlib", self.calls())
+        self.let_go()
+        self.assertEqual(run.communicate()[0].decode(), SHOWN)
 
     def test_changed_sources_are_proved_anew(self):
         source = self.here / "crates" / "yard"
@@ -325,12 +326,15 @@ class Prover(Checkout):
 
     def test_many_at_once(self):
         self.drop_built()
+        self.environment["RT_GATED"] = "check"
         runs = [self.start(self.card, "-o", self.scratch / f"kept {number}") for number in range(5)]
+        first_lines = sorted(run.stderr.readline().decode() for run in runs)
+        self.assertEqual(first_lines[1:], [WAITING] * 4)
+        self.let_go()
         said = [run.communicate() for run in runs]
         self.assertEqual([run.returncode for run in runs], [0] * 5, said)
         self.assertEqual([out.decode() for out, _ in said], [SHOWN] * 5)
         self.assertEqual(self.calls(), BUILDS, "the prover ran more than once, or twice at the same time")
-        self.assertEqual(sum(b"plan: waiting for another ./plan in this checkout\n" in err for _, err in said), 4)
         self.assertEqual({(self.scratch / f"kept {number}").read_bytes() for number in range(5)}, {CARD})
 
     def test_nobody_runs_what_is_being_built(self):
@@ -343,7 +347,7 @@ class Prover(Checkout):
             with open(lock) as held:
                 fcntl.flock(held, kind)
                 run = self.start(self.card)
-                self.assertEqual(run.stderr.readline(), b"plan: waiting for another ./plan in this checkout\n")
+                self.assertEqual(run.stderr.readline().decode(), WAITING)
                 self.assertEqual((run.poll(), self.calls()), (None, []))
             self.assertEqual(run.communicate()[0].decode(), SHOWN)
         self.assertEqual(self.calls(), BUILDS)
@@ -358,13 +362,18 @@ class Prover(Checkout):
     def test_the_prover_outlives_its_plan(self):
         """Whoever comes next waits for a prover that still works, though the ./plan that started it was killed."""
         self.drop_built()
+        self.environment["RT_GATED"] = "check"
         first = self.start(self.card)
+        first.stderr.readline()
         while not self.calls():
             time.sleep(0.01)
         first.kill()
-        self.assertEqual(self.plan(self.card)[:2], (0, SHOWN))
+        second = self.start(self.card)
+        self.assertEqual(second.stderr.readline().decode(), WAITING)
+        self.let_go()
+        self.assertEqual(second.communicate()[0].decode(), SHOWN)
         first.communicate()
-        self.assertEqual(self.calls()[:2], ["begin check", "end check"])
+        self.assertEqual(self.calls(), BUILDS[:2] + BUILDS)
 
     def test_proof_that_fails(self):
         self.drop_built()

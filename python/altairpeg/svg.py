@@ -9,16 +9,15 @@ import textwrap
 from typing import Collection, NamedTuple, Sequence
 from xml.sax.saxutils import escape
 
+from .colours import INK, PALE, PULLED, WRONG, band, fill, number_colour
 from .files import headline
 from .story import FEW_TRAINS, Story, disorder, trouble
-
-# Okabe and Ito's colours, which people with any colour vision tell apart, with grey in place of black.
-COLOURS = ("#56b4e9", "#e69f00", "#009e73", "#f0e442", "#0072b2", "#d55e00", "#cc79a7", "#bbbbbb")
-INK, PALE, PULLED, WRONG = "#1a1a1a", "#efefef", "#fff2cc", "#b00020"
 
 MARGIN = 20
 LABEL = 96
 BAND = 4
+# The width of a letter, as a part of the size of its font.
+LETTER = 0.58
 # The least height of a row: its label has two lines.
 LOWEST = 30
 # The free space below the boxes of a line: with names of tracks there, and without.
@@ -43,35 +42,6 @@ def _scale(cars: int) -> Scale:
     return Scale(46, 26, 14, min(20, max(cars, 10)), True) if cars <= FEW_CARS else Scale(32, 20, 12, 34, False)
 
 
-def _brightness(colour: str) -> float:
-    """The relative luminance of a colour, as the contrast rule of WCAG 2 has it."""
-    parts = [int(colour[at : at + 2], 16) / 255 for at in (1, 3, 5)]
-    red, green, blue = (part / 12.92 if part <= 0.04045 else ((part + 0.055) / 1.055) ** 2.4 for part in parts)
-    return 0.2126 * red + 0.7152 * green + 0.0722 * blue
-
-
-def contrast(one: str, other: str) -> float:
-    """The contrast of two colours, from 1 to 21."""
-    dark, light = sorted((_brightness(one), _brightness(other)))
-    return (light + 0.05) / (dark + 0.05)
-
-
-def fill(train: int) -> str:
-    """The colour of a train's boxes."""
-    return COLOURS[(train - 1) % len(COLOURS)]
-
-
-def band(train: int) -> str:
-    """The colour of the band at the foot of a train's boxes, from train 9 on: with it each of 64 trains has a look of its own."""
-    turn, at = divmod(train - 1, len(COLOURS))
-    return COLOURS[(at + turn) % len(COLOURS)] if turn else ""
-
-
-def number_colour(train: int) -> str:
-    """The colour of the numbers in a train's boxes: whichever of dark and white is easier to read there."""
-    return max((INK, "#ffffff"), key=lambda colour: contrast(colour, fill(train)))
-
-
 class Sheet:
     """A picture that grows downward: what was drawn, and how far down the next part begins."""
 
@@ -92,11 +62,15 @@ class Sheet:
         """A line of text; y is its foot."""
         self.drawn.append(f'<text x="{x}" y="{y}"{look and " " + look}>{escape(words)}</text>')
 
-    def paragraph(self, words: str, size: int, look: str = "") -> None:
-        """Text across the picture, in as many lines as it needs."""
-        for line in textwrap.wrap(words, int((self.width - 2 * MARGIN) / (size * 0.56))):
+    def wrapped(self, words: str, size: int, x: int) -> list[str]:
+        """A text that begins at x, in as many lines as it needs; no common font is wider than this takes it to be."""
+        return textwrap.wrap(words, int((self.width - MARGIN - x) / (size * LETTER)))
+
+    def paragraph(self, words: str, size: int, look: str = "", x: int = MARGIN) -> None:
+        """Text below what was drawn, in as many lines as it needs."""
+        for line in self.wrapped(words, size, x):
             self.y += size + 6
-            self.text(MARGIN, self.y, line, f'font-size="{size}"{look and " " + look}')
+            self.text(x, self.y, line, f'font-size="{size}"{look and " " + look}')
 
     def heading(self, words: str) -> None:
         """The heading of a part, set off from the part above it."""
@@ -115,7 +89,7 @@ class Sheet:
         self.text(x + width // 2, round(foot), words, f'fill="{number_colour(train)}" text-anchor="middle" font-size="{self.scale.font}"')
 
 
-def _place(sheet: Sheet, x: int, at: int, below: int) -> tuple:
+def _place(sheet: Sheet, x: int, at: int, below: int) -> tuple[int, int]:
     """Where the box number `at` of a row stands, with so much free space below each line."""
     line, column = divmod(at, sheet.scale.line)
     return x + column * sheet.scale.width, sheet.y + line * (sheet.scale.height + below)
@@ -169,8 +143,8 @@ def _label(sheet: Sheet, x: int, name: str, count: str) -> None:
 def _inbound(sheet: Sheet) -> None:
     """The first roll-in: the cars as they come, and where each cut rolls."""
     cars = sheet.story.plan.night.inbound
-    sheet.heading(f"First roll-in, {len(cars)} cars over the hump")
-    _label(sheet, MARGIN, "inbound", f"{len(cars)} cars")
+    sheet.heading(f"First roll-in, {_counted(len(cars), 'car')} over the hump")
+    _label(sheet, MARGIN, "inbound", _counted(len(cars), "car"))
     _cars(sheet, MARGIN + LABEL, cars, NAMED)
     _targets(sheet, MARGIN + LABEL, 0, NAMED)
     sheet.y += _depth(sheet, len(cars), NAMED)
@@ -189,17 +163,17 @@ def _pulled_track(sheet: Sheet, stage: int, moved: Collection[int]) -> None:
     """The track that the next step pulls: its cars, and below them where they roll, or what is wrong with them."""
     story, x = sheet.story, MARGIN + LABEL
     cars, told = story.pulled(stage), trouble(story, stage)
+    words = f"! {told}" if told else ""
     below = BARE if story.fails_at(stage) or not cars else NAMED
     depth = max(_depth(sheet, len(cars), below), LOWEST)
-    sheet.rect(MARGIN - 6, sheet.y - 4, sheet.width - 2 * MARGIN + 12, depth + 2 + (24 if told else 0), f'fill="{PULLED}"')
+    sheet.rect(MARGIN - 6, sheet.y - 4, sheet.width - 2 * MARGIN + 12, depth + 2 + 19 * len(sheet.wrapped(words, 13, x)), f'fill="{PULLED}"')
     _label(sheet, MARGIN, f"track {stage % story.plan.night.tracks}", f"{len(cars)} of {story.plan.night.room}, pulled")
     _cars(sheet, x, cars, below, moved, story.wrong(stage))
     if not story.fails_at(stage):
         _targets(sheet, x, stage + 1, below)
-    sheet.y += depth + 4
-    if told:
-        sheet.text(x, sheet.y + 10, f"! {told}", f'font-size="13" fill="{WRONG}" font-weight="bold"')
-        sheet.y += 24
+    sheet.y += depth - 8
+    sheet.paragraph(words, 13, f'fill="{WRONG}" font-weight="bold"', x)
+    sheet.y += 12
 
 
 def _shown_trains(story: Story, stage: int) -> list[int]:
@@ -237,7 +211,8 @@ def _train(sheet: Sheet, x: int, stage: int, train: int, moved: Collection[int])
 def _stage(sheet: Sheet, stage: int) -> None:
     """The yard at a stage, and what the next step pulls."""
     story = sheet.story
-    moved = [car for cut in story.cuts(stage) for car in cut.cars] if stage else []
+    # At stage 0 every car has just rolled in, so that is no news.
+    moved = {car for cut in story.cuts(stage) for car in cut.cars} if stage else set()
     pulled = stage % story.plan.night.tracks if stage in story.pulls else None
     next_step = "" if pulled is None else f"; step {stage} pulls track {pulled}"
     sheet.heading(f"Stage {stage}, {story.yards[stage].passes} passes{next_step}")
@@ -279,11 +254,15 @@ def _legend(sheet: Sheet) -> None:
     sheet.paragraph(" ".join(filter(None, signs)), 12, 'fill="#555"')
 
 
+def _counted(number: int, name: str) -> str:
+    """So many of something."""
+    return f"{number} {name}" if number == 1 else f"{number} {name}s"
+
+
 def _title(story: Story) -> str:
     """The picture's title."""
     night = story.plan.night
-    cars, trains = len(night.inbound), len(night.lengths)
-    return f"A night of {cars} {'car' if cars == 1 else 'cars'} and {trains} {'train' if trains == 1 else 'trains'}, stage by stage"
+    return f"A night of {_counted(len(night.inbound), 'car')} and {_counted(len(night.lengths), 'train')}, stage by stage"
 
 
 def _verdict(sheet: Sheet) -> None:

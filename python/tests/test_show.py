@@ -9,13 +9,6 @@ from altairpeg.story import tell
 from drawings import EARLY, OUT_OF_ORDER, OVERFILLED, many, show
 from support import CARD, PYTHON, SHORT, Scratch, altairpeg
 
-BRIEF = """\
-steps 2 tracks 2 room 3 cars 6 trains 1 passes 11
-step 0 pulls track 0: 3 6 4
-step 1 pulls track 1: 5 6
-train 1: 1 2 3 4 5 6
-check: accepted, 11 passes, fullest pull 3
-"""
 # How the drawing of each refused plan ends.
 ENDS = (
     (OVERFILLED, """\
@@ -48,7 +41,7 @@ check: refused 9 3 0: trains out of order (car 3)
 class Show(Scratch):
     def test_case_1(self):
         self.ran(show(CARD), 0, (PYTHON / "tests" / "case_1.txt").read_text())
-        self.ran(show(CARD, "--brief"), 0, BRIEF)
+        self.ran(show(CARD, "--brief"), 0, (PYTHON / "tests" / "case_1_brief.txt").read_text())
 
     def test_refused_cards(self):
         self.ran(show(SHORT), 1, err="refused 10 16 0: card too short (16 bytes needed, as far as known)\n")

@@ -6,12 +6,14 @@ from pathlib import Path
 from xml.etree import ElementTree
 
 from altairpeg import Night, Plan, read_card
+from altairpeg.colours import COLOURS, band, contrast, fill, number_colour
 from altairpeg.story import tell
-from altairpeg.svg import COLOURS, band, contrast, fill, number_colour, picture
+from altairpeg.svg import LETTER, picture
 
 from drawings import EARLY, OUT_OF_ORDER, OVERFILLED, many, show
 from support import CARD, PYTHON, Scratch
 
+ALL_EARLY = Plan(Night([12], list(range(1, 13)), 1, 12), 2, [2] * 12)
 KEPT = PYTHON.parent / "docs" / "first-card.svg"
 NAME = "{http://www.w3.org/2000/svg}"
 TRAINS = range(1, 65)
@@ -50,12 +52,16 @@ class Picture(unittest.TestCase):
             self.assertEqual(told.count(car), 1)
 
     def test_nothing_leaves_the_picture(self):
-        for plan in (Plan(Night([1], [1], 1, 1), 0, [0]), many(4, 15), many(64, 8), many(1, 512, 8), OVERFILLED):
+        for plan in (Plan(Night([1], [1], 1, 1), 0, [0]), many(4, 15), many(64, 8), many(1, 512, 8), OVERFILLED, ALL_EARLY):
             root = ElementTree.fromstring(picture(tell(plan)))
             width, height = int(root.get("width")), int(root.get("height"))
             for box in root.iter(f"{NAME}rect"):
                 right, foot = int(box.get("x", 0)) + int(box.get("width")), int(box.get("y", 0)) + int(box.get("height"))
                 self.assertTrue(right <= width and foot <= height, box.attrib)
+            for text in root.iter(f"{NAME}text"):
+                if text.get("text-anchor") is None:
+                    right = int(text.get("x")) + len(text.text) * int(text.get("font-size")) * LETTER
+                    self.assertTrue(right <= width and int(text.get("y")) <= height, text.text)
 
     def test_nothing_from_outside(self):
         drawn = picture(tell(many(64, 8)))
