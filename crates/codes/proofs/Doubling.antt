@@ -20,9 +20,9 @@ use Rattle.yard.proofs.Counting.{gaps-top}
 use Rattle.yard.proofs.Least.{F-usable}
 use Rattle.yard.proofs.Plans.{usable-gaps}
 use Rattle.yard.proofs.DerivedPlan.{codeNumber-usable}
-use Rattle.codes.specs.Front.{Under, Front}
+use Rattle.scan.specs.Front.{Under, Front}
 use Rattle.codes.specs.Ring.{lost}
-use Rattle.codes.proofs.Front.{front-items, front-over}
+use Rattle.scan.proofs.Front.{front-items, front-over}
 use Rattle.codes.proofs.Gap.{usable-gap, usable-grow}
 
 -- ---- numbers that pass a test

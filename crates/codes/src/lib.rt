@@ -7,7 +7,7 @@ ghost use Rattle.yard.specs.Limits.{limits};
 ghost use Rattle.yard.specs.Demands.{Within};
 ghost use Rattle.yard.specs.Codes.{F, fewestTracks, fewestSteps, usableCodes};
 ghost use Rattle.codes.specs.Gap.{gaps};
-ghost use Rattle.codes.specs.Front.{Under, Front};
+ghost use Rattle.scan.specs.Front.{Under, Front};
 ghost use Rattle.codes.specs.Ring.{lost, Ring};
 ghost use Rattle.codes.specs.Wider.{firstWider};
 

@@ -12,9 +12,9 @@ use Rattle.yard.specs.Derived.{stepsNeeded, derivedCodes}
 use Rattle.yard.specs.Demands.{Listed}
 use Rattle.yard.proofs.Least.{F-usable}
 use Rattle.yard.proofs.DerivedPlan.{map-item, length-by-car, fewest-enough, before-most, derived-length}
-use Rattle.codes.specs.Front.{Under, Front}
-use Rattle.codes.proofs.Front.{front-item, front-fits, front-behind}
-use Rattle.derive.specs.Numbers.{Numbers}
+use Rattle.scan.specs.Front.{Under, Front}
+use Rattle.scan.proofs.Front.{front-item, front-fits, front-behind}
+use Rattle.breaks.specs.Numbers.{Numbers}
 
 -- the number at hand is as it came, so the table has its code
 module _ (W h : ℕ) (pos : 0 < W) {s table numbers done now : List ℕ} {r i : ℕ} (codes : Front (usableCodes W h) s r table) (below : Under (F W h) numbers) (l : i < length numbers) (held : Front done numbers i now) where

@@ -21,7 +21,7 @@ use Rattle.yard.proofs.Verdict.{Passed, verdict-passes}
 use Rattle.yard.proofs.Tests.{counts-passed}
 use Rattle.yard.proofs.Formed.{count-at, lists-passed}
 use Rattle.intake.specs.Tests.{listTests}
-use Rattle.intake.proofs.Tests.{between}
+use Rattle.scan.proofs.Range.{between}
 
 -- an answer that only tests is 0 exactly if every test is passed
 tests-passed : (tests : List Answer) → (verdict tests (says 0 0 0) .number ≡ 0) ↔ Passed tests

@@ -20,8 +20,9 @@ use Rattle.yard.proofs.DerivedPlan.{length-by-car}
 use Rattle.yard.proofs.PlanYard.{track-target, place-target}
 use Rattle.yard.proofs.EarlySearch.{early-test}
 use Rattle.sorting.specs.Sums.{setBelow}
-use Rattle.sorting.specs.Stages.{sortedTo, trackBy, placeBy}
-use Rattle.sorting.proofs.Keys.{sortedTo-is}
+use Rattle.order.specs.Order.{sortedTo}
+use Rattle.stage.specs.Stages.{trackBy, placeBy}
+use Rattle.order.proofs.Keys.{sortedTo-is}
 use Rattle.plans.specs.Closed.{givenTests, placedTests, soundTests, Counted, Placeable, Placed}
 use Rattle.plans.proofs.Stages.{by-car-same}
 use Rattle.plans.proofs.Replayed.{sound-is, passes-is}
@@ -137,11 +138,11 @@ module _ (lengths inbound codes : List ℕ) (W C h stage : ℕ) (on at : List �
                 record {
                   answer = e;
                   tracks =
-                      stood .tracks ∙
+                      stood .tracks .listed ∙
                       (ap₂ (λ (l : List ℕ) (k : ℕ). l ++ drop k on) (tracks-are lengths inbound codes W C h (q .lists) (q .tracks .0) never stage (q .upto)) (sym (length-by-car (trackOf p stage) n)) ∙
                       sym (written-accepted a (carTracks p stage) on zero));
                   places =
-                      stood .places ∙
+                      stood .places .listed ∙
                       (ap₂ (λ (l : List ℕ) (k : ℕ). l ++ drop k at) (places-are lengths inbound codes W C h (q .lists) (q .tracks .0) never stage (q .upto)) (sym (length-by-car (placeOf p stage) n)) ∙
                       sym (written-accepted a (carPlaces p stage) at zero));
                 }

@@ -17,7 +17,7 @@ use Rattle.yard.proofs.Verdict.{passed-append, verdict-passes, verdict-append, 
 use Rattle.yard.proofs.Tests.{list-passed}
 use Rattle.yard.proofs.Formed.{lists-passed}
 use Rattle.intake.proofs.Passed.{counts-within}
-use Rattle.sorting.specs.Sums.{setBelow, mostNamed}
+use Rattle.sorting.specs.Sums.{setBelow, fullestOf}
 use Rattle.plans.specs.Closed.{givenTests, soundTests, pairTest, Counted}
 use Rattle.plans.proofs.Replayed.{sound-is, order-is}
 
@@ -48,7 +48,7 @@ module _ (lengths inbound codes : List ℕ) (W C h : ℕ) where
   done = says 0 (passes (planOf lengths inbound W C h codes) h) (fullestPull (planOf lengths inbound W C h codes))
 
   closed-done : Answer
-  closed-done = says 0 (length codes + setBelow h codes) (mostNamed codes h)
+  closed-done = says 0 (length codes + setBelow h codes) (fullestOf codes h)
 
   -- the tests from 7 on, worked out from the lists
   closed-check : InLimits limits (length inbound) (length lengths) W C h → Listed lengths inbound → length codes ≡ length inbound → verdict (soundTests W C h codes ++ (pairTest lengths inbound codes ∷ [])) closed-done ≡ verdict plan-tests done
@@ -83,6 +83,6 @@ module _ (lengths inbound codes : List ℕ) (W C h : ℕ) where
           pub check-sound : (r₃ .number ≡ 0 → ⊥) → Checks (planOf lengths inbound W C h codes) r₃
           check-sound n = rest r₃ (stops-all (soundTests W C h codes) (pairTest lengths inbound codes ∷ []) closed-done r₃ is₃ n)
 
-          pub check-ordered : r₃ .number ≡ 0 → (r : Answer) → r ≡ verdict (pairTest lengths inbound codes ∷ []) (says 0 (length codes + setBelow h codes) (mostNamed codes h)) → Checks (planOf lengths inbound W C h codes) r
+          pub check-ordered : r₃ .number ≡ 0 → (r : Answer) → r ≡ verdict (pairTest lengths inbound codes ∷ []) (says 0 (length codes + setBelow h codes) (fullestOf codes h)) → Checks (planOf lengths inbound W C h codes) r
           unfolding closed-done
           check-ordered z₃ r is = rest r (goes-on-all (soundTests W C h codes) (pairTest lengths inbound codes ∷ []) closed-done r₃ is₃ r z₃ is)

@@ -22,7 +22,7 @@ use Rattle.yard.proofs.Early.{Kept, kept-of-gaps}
 use Rattle.yard.proofs.Plans.{usable-gaps}
 use Rattle.yard.specs.Waiting.{waits, lowestWaiting, someWaits, firstWaiting}
 use Rattle.codes.proofs.Gap.{usable-fewest}
-use Rattle.codes.specs.Front.{Under}
+use Rattle.scan.specs.Front.{Under}
 use Rattle.codes.specs.Wider.{wider, firstWider}
 use Rattle.plans.specs.Closed.{waitTest}
 

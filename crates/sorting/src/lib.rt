@@ -1,7 +1,5 @@
-// What a replay does, worked out from the codes: passes, pulls, the first early pull, the order at a stage.
+// What a replay does, worked out from the codes: passes, pulls and the first early pull.
 pub mod early;
-pub mod order;
-pub mod stage;
 
 ghost use mathlib.Core.Path.{_≡_};
 ghost use Prim.Native.Nat.{_+_, _%_, _^_, max, _≤_, _<_};
@@ -10,7 +8,7 @@ ghost use lib.ListN.{length};
 ghost use Rattle.yard.specs.Limits.{limits};
 ghost use Rattle.yard.specs.Words.{tally};
 ghost use Rattle.yard.specs.Replay.{bit};
-ghost use Rattle.sorting.specs.Sums.{named, setBelow, firstAbove, mostNamed};
+ghost use Rattle.sorting.specs.Sums.{pullOf, setBelow, firstAbove, fullestOf};
 
 // 1 where the code names the step, else 0.
 fn names(code: u16, step: usize) -> u16
@@ -23,7 +21,7 @@ fn names(code: u16, step: usize) -> u16
 // How many codes name the step: the cars it pulls. The count is as wide as a code, so that the machine counts many codes at once.
 pub fn pull(codes: &[u16], step: usize) -> usize
     requires { ⌜ (step < limits .steps) × (length (now codes) ≤ limits .cars) ⌝ }
-    ensures { λ r. ⌜ r ≡ named (now (codes .entry)) step ⌝ }
+    ensures { λ r. ⌜ r ≡ pullOf (now (codes .entry)) step ⌝ }
 {
     let mut cars: u16 = 0;
     for i in 0..codes.len() {
@@ -47,7 +45,7 @@ fn find_above(codes: &[u16], steps: usize, room: usize) -> usize
 
 // The same, for codes whose fullest pull is known; only where it is above the room is there a step to look for.
 pub fn first_above(codes: &[u16], steps: usize, room: usize, fullest: usize) -> usize
-    requires { ⌜ (steps ≤ limits .steps) × (length (now codes) ≤ limits .cars) × (fullest ≡ mostNamed (now codes) steps) ⌝ }
+    requires { ⌜ (steps ≤ limits .steps) × (length (now codes) ≤ limits .cars) × (fullest ≡ fullestOf (now codes) steps) ⌝ }
     ensures { λ r. ⌜ r ≡ firstAbove room (now (codes .entry)) steps ⌝ }
 {
     if room < fullest {
@@ -66,7 +64,7 @@ fn larger(a: usize, b: usize) -> usize
 // The cars of the fullest pull, 0 where there are no steps.
 pub fn fullest(codes: &[u16], steps: usize) -> usize
     requires { ⌜ (steps ≤ limits .steps) × (length (now codes) ≤ limits .cars) ⌝ }
-    ensures { λ r. ⌜ r ≡ mostNamed (now (codes .entry)) steps ⌝ }
+    ensures { λ r. ⌜ r ≡ fullestOf (now (codes .entry)) steps ⌝ }
 {
     let mut most: usize = 0;
     for step in 0..steps {
@@ -83,7 +81,7 @@ fn ones(code: u16) -> u16
 }
 
 // The low bits of a code, below a stage.
-fn low(code: u16, stage: usize) -> u16
+pub fn low(code: u16, stage: usize) -> u16
     requires { ⌜ stage ≤ 16 ⌝ }
     ensures { λ r. ⌜ r ≡ code % 2 ^ stage ⌝ }
 {

@@ -9,7 +9,7 @@ use denote.Ref.{now}
 use Rattle.yard.specs.Limits.{limits}
 use Rattle.yard.specs.Codes.{usableCodes}
 use Rattle.yard.proofs.Counting.{F-above}
-use Rattle.codes.specs.Front.{Front}
+use Rattle.scan.specs.Front.{Front}
 use Rattle.codes.specs.Ring.{Ring}
 use Rattle.codes.proofs.Steps.{F-next, F-le, ring-first}
 use Rattle.codes.proofs.Doubling.{written-none, written-all, written-number, written-small, written-next}

@@ -7,8 +7,8 @@ use native.Mathlib.Omega.{arith}
 use lib.ListN.{length, getD, take, drop, length-set, length-drop}
 use lib.Seq.{getD-drop, length-take-le, take-length}
 use denote.Ref.{now}
-use Rattle.codes.specs.Front.{Front}
-use Rattle.codes.proofs.Front.{front-whole, front-first, front-through}
+use Rattle.scan.specs.Front.{Front}
+use Rattle.scan.proofs.Front.{front-whole, front-first, front-through}
 use Rattle.codes.proofs.with_bit.Statement.{statement}
 use Rattle.codes.proofs.with_bit.Tie as tie
 

@@ -9,8 +9,8 @@ use lib.Pow.{pow-mono}
 use denote.Ref.{now}
 use Rattle.yard.specs.Limits.{limits}
 use Rattle.yard.specs.Codes.{codeNumber}
-use Rattle.codes.proofs.Front.{front-none, front-through}
-use Rattle.codes.specs.Front.{Front}
+use Rattle.scan.proofs.Front.{front-none, front-through}
+use Rattle.scan.specs.Front.{Front}
 use Rattle.derive.proofs.Coded.{number-fits, number-code}
 use Rattle.derive.proofs.give.Statement.{statement}
 use Rattle.derive.proofs.give.Tie as tie
