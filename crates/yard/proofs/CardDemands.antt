@@ -12,7 +12,7 @@ use Rattle.yard.specs.Limits.{Limits}
 use Rattle.yard.specs.Night.{Plan}
 use Rattle.yard.specs.Answers.{says, test}
 use Rattle.yard.specs.Calls.{countTests}
-use Rattle.yard.specs.Card.{card, headField, cardPlan, rightLength, endsRight, writerTests, writerAnswer, readerTests, readerVerdict}
+use Rattle.yard.specs.Card.{card, headLength, headOn, cardPlan, rightLength, endsRight, writerTests, writerAnswer, readerTests, readerVerdict}
 use Rattle.yard.specs.Demands.{Reason, AllHold, FirstFails, must, rangeReasons, writerReasons, readerReasons}
 use Rattle.yard.proofs.Tests.{asks}
 use Rattle.yard.proofs.Reasons.{Agrees, Agree, agree-append, accepted-exactly, refused-exactly}
@@ -39,27 +39,29 @@ writer-agrees L p size =
 
 reader-agrees : (L : Limits) (bytes : List ℕ) (a b c : ℕ) → Agree (readerTests L bytes a b c) (readerReasons L bytes a b c)
 reader-agrees L bytes a b c =
-    let m = headField bytes 5 in
-    let n = headField bytes 4 in (
+    let h = headOn bytes in
+    let counts = countTests L (h .cars) (h .trains) (h .tracks) (h .room) (h .steps) in
+    let ranges = rangeReasons L (h .cars) (h .trains) (h .tracks) (h .room) (h .steps) in
+    let right = rightLength bytes in (
       bytes-agree 1 1 (length bytes),
       λ _. (
-        edition-agrees (headField bytes 0),
+        edition-agrees (h .edition),
         λ _. (
-          bytes-agree 5 5 (length bytes),
+          bytes-agree (headLength h) (headLength h) (length bytes),
           λ _.
-              agree-append (countTests L n m (headField bytes 2) (headField bytes 3) (headField bytes 1)) (drop 8 (readerTests L bytes a b c)) (rangeReasons L n m (headField bytes 2) (headField bytes 3) (headField bytes 1)) (drop 8 (readerReasons L bytes a b c))
-              (ranges-agree L n m (headField bytes 2) (headField bytes 3) (headField bytes 1))
+              agree-append counts (drop 8 (readerTests L bytes a b c)) ranges (drop 8 (readerReasons L bytes a b c))
+              (ranges-agree L (h .cars) (h .trains) (h .tracks) (h .room) (h .steps))
               (λ _. (
-                bytes-agree (rightLength bytes) (rightLength bytes) (length bytes),
+                bytes-agree right right (length bytes),
                 λ _. (
-                  buffer-agrees 1 m a,
+                  buffer-agrees 1 (h .trains) a,
                   λ _. (
-                    buffer-agrees 2 n b,
+                    buffer-agrees 2 (h .cars) b,
                     λ _. (
-                      buffer-agrees 3 n c,
+                      buffer-agrees 3 (h .cars) c,
                       λ _.
                           night-then (cardPlan bytes .night) (drop 15 (readerTests L bytes a b c)) (drop 15 (readerReasons L bytes a b c))
-                          (λ _. (agrees (endsRight bytes) 11 (rightLength bytes) 0 (endsRight bytes ≡ true) (asks (endsRight bytes) 11 (rightLength bytes) 0), λ _. tt)),
+                          (λ _. (agrees (endsRight bytes) 11 right 0 (endsRight bytes ≡ true) (asks (endsRight bytes) 11 right 0), λ _. tt)),
                     ),
                   ),
                 ),

@@ -10,7 +10,7 @@ use Rattle.yard.specs.Limits.{Limits}
 use Rattle.yard.specs.Night.{Night, Plan, cars, sum, itemOf, carsOf}
 use Rattle.yard.specs.Replay.{bit, codeOf, pulled, pullSize, built}
 use Rattle.yard.specs.Derived.{derivedPlan}
-use Rattle.yard.specs.Card.{card, headField, cardPlan, rightLength, endsRight}
+use Rattle.yard.specs.Card.{card, headLength, headOn, cardPlan, rightLength, endsRight}
 
 -- x lies in a range
 abbrev pub Within : ℕ → ℕ → ℕ → Type 0
@@ -138,13 +138,14 @@ writerReasons L p size =
 
 abbrev pub readerReasons : Limits → List ℕ → ℕ → ℕ → ℕ → List Reason
 readerReasons L bytes lengthsSize inboundSize codesSize =
+    let h = headOn bytes in
     must 10 (1 ≤ length bytes) ∷
-    must 11 (headField bytes 0 ≡ 1) ∷
-    must 10 (5 ≤ length bytes) ∷
-    (rangeReasons L (headField bytes 4) (headField bytes 5) (headField bytes 2) (headField bytes 3) (headField bytes 1) ++
+    must 11 (h .edition ≡ 1) ∷
+    must 10 (headLength h ≤ length bytes) ∷
+    (rangeReasons L (h .cars) (h .trains) (h .tracks) (h .room) (h .steps) ++
     (must 10 (rightLength bytes ≤ length bytes) ∷
-    must 4 (headField bytes 5 ≤ lengthsSize) ∷
-    must 4 (headField bytes 4 ≤ inboundSize) ∷
-    must 4 (headField bytes 4 ≤ codesSize) ∷
+    must 4 (h .trains ≤ lengthsSize) ∷
+    must 4 (h .cars ≤ inboundSize) ∷
+    must 4 (h .cars ≤ codesSize) ∷
     (nightReasons (cardPlan bytes .night) ++
     (must 12 (endsRight bytes ≡ true) ∷ []))))

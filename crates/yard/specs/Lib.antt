@@ -8,6 +8,7 @@ pub mod Waiting
 pub mod Derived
 pub mod Answers
 pub mod Calls
+pub mod Bits
 pub mod Card
 pub mod Price
 pub mod Demands
