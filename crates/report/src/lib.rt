@@ -1,10 +1,14 @@
 // What the two programs put out for a card: document 01's lines, and the card of the derived plan.
 mod text; // text.rt: pieces of text, one behind the other
 mod lines; // lines.rt: document 01's lines
+mod edge; // edge.rt: the programs' reading and writing
 
+pub use edge::run_nightcard;
+pub use edge::run_nightplan;
 ghost use Prim.Native.Nat.{_≤_};
 ghost use mathlib.Core.Path.{_≡_};
 ghost use lib.ListN.{length};
+ghost use Rattle.io.specs.Counts.{Counts};
 ghost use Rattle.yard.specs.Limits.{limits};
 ghost use Rattle.yard.specs.Night.{nightOf, planOf};
 ghost use Rattle.yard.specs.Calls.{checkAnswer};
@@ -35,6 +39,7 @@ pub fn nightplan(card: &[u8], out: &mut [u8]) -> usize
 // Reads a card, and puts out its plan: derived anew, or checked as it is.
 fn put_out(card: &[u8], out: &mut [u8], anew: bool) -> usize
     ensures { λ r. ⌜ Adds (ofCard (outOf anew (length (now (out .entry)))) (now (card .entry))) (now (out .entry)) 0 r (now (out .exit)) ⌝ }
+    ensures { λ r. ⌜ Counts r (now (out .exit)) ⌝ }
 {
     let mut lengths = [0u16; TRAINS];
     let mut inbound = [0u16; CARS];
