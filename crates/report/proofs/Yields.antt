@@ -12,11 +12,11 @@ use Rattle.yard.specs.Limits.{limits}
 use Rattle.yard.specs.Night.{Night, Plan}
 use Rattle.yard.specs.Derived.{derivedPlan}
 use Rattle.yard.specs.Answers.{says, listTest}
-use Rattle.yard.specs.Calls.{checkAnswer, replayAnswer, deriveAnswer}
+use Rattle.yard.specs.Calls.{checkAnswer, deriveAnswer}
 use Rattle.yard.specs.Card.{card, writerTests, writerAnswer}
-use Rattle.yard.specs.Demands.{Within, Listed, BuildsTrains, AllHold, checkReasons, replayReasons, deriveReasons, writerReasons}
+use Rattle.yard.specs.Demands.{Within, Listed, BuildsTrains, AllHold, checkReasons, deriveReasons, writerReasons}
 use Rattle.yard.proofs.Verdict.{verdict-passes, verdict-first, passed-append}
-use Rattle.yard.proofs.Demands.{check-accepts-exactly, replay-accepts-exactly, derive-accepts-exactly, derive-least}
+use Rattle.yard.proofs.Demands.{check-accepts-exactly, derive-accepts-exactly, derive-least}
 use Rattle.yard.proofs.CardDemands.{writer-accepts-exactly}
 use Rattle.yard.proofs.CardCalls.{written-longest}
 
@@ -33,25 +33,8 @@ module _ (p : Plan) where
   good-of (cars, (trains, (tracks, (room, (steps, (nonempty, (adds, (once, (coded, (below, (never, (roomy, (builds, _))))))))))))) =
       record { cars = cars .1; trains = trains .1; tracks = tracks; listed = record { nonempty = nonempty; adds = adds; once = once }; builds = builds }
 
-  replays-of : (trackSize placeSize : ℕ)
-      → length (p .night .inbound) ≤ trackSize
-      → length (p .night .inbound) ≤ placeSize
-      → AllHold (checkReasons limits p)
-      → AllHold (replayReasons limits p (p .steps) trackSize placeSize)
-  replays-of trackSize placeSize a b (cars, (trains, (tracks, (room, (steps, (nonempty, (adds, (once, (coded, (below, (never, (roomy, (builds, _))))))))))))) =
-      (cars, (trains, (tracks, (room, (steps, ((omega arith, le-refl (p .steps)), (nonempty, (adds, (once, (coded, (a, (b, (below, (never, (roomy, tt)))))))))))))))
-
   pub checked-good : checkAnswer limits p .number ≡ 0 → Good p
   checked-good e = good-of (check-accepts-exactly limits p .0 e)
-
-  -- its replay to the last stage is accepted too
-  pub checked-replays : checkAnswer limits p .number ≡ 0
-      → (trackSize placeSize : ℕ)
-      → length (p .night .inbound) ≤ trackSize
-      → length (p .night .inbound) ≤ placeSize
-      → replayAnswer limits p (p .steps) trackSize placeSize .number ≡ 0
-  checked-replays e trackSize placeSize a b =
-      replay-accepts-exactly limits p (p .steps) trackSize placeSize .1 (replays-of trackSize placeSize a b (check-accepts-exactly limits p .0 e))
 
 module _ (n : Night) (derived : deriveAnswer limits n 8 512 .number ≡ 0) where
   writes-of : (size : ℕ) → length (card (derivedPlan n)) ≤ size → AllHold (deriveReasons limits n 8 512) → AllHold (writerReasons limits (derivedPlan n) size)

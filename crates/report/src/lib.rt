@@ -5,15 +5,11 @@ mod edge; // edge.rt: the programs' reading and writing
 
 pub use edge::run_nightcard;
 pub use edge::run_nightplan;
-ghost use Prim.Native.Nat.{_≤_};
-ghost use mathlib.Core.Path.{_≡_};
 ghost use lib.ListN.{length};
 ghost use Rattle.io.specs.Counts.{Counts};
-ghost use Rattle.yard.specs.Limits.{limits};
 ghost use Rattle.yard.specs.Night.{nightOf, planOf};
-ghost use Rattle.yard.specs.Calls.{checkAnswer};
 ghost use Rattle.report.specs.Text.{Adds};
-ghost use Rattle.report.specs.Programs.{trainLines, checkedLines, ofDerived, cardIn, outOf, ofCard, nightcardText, nightplanIn};
+ghost use Rattle.report.specs.Programs.{checkedLines, ofDerived, cardIn, outOf, ofCard, nightcardText, nightplanIn};
 
 // The most trains and cars of a night.
 const TRAINS: usize = 64;
@@ -66,7 +62,8 @@ fn put_out(card: &[u8], out: &mut [u8], anew: bool) -> usize
     )
 }
 
-// The lines of a plan: refused by check, or its counts and its trains as the replay built them.
+// The lines of a plan: refused by check, or its counts and its trains as the replay built them, which are in order
+// (`trains-built` in proofs/Programs.antt).
 fn plan(
     text: &mut [u8],
     lengths: &[u16],
@@ -85,40 +82,7 @@ fn plan(
     }
     let n = inbound.len();
     let end = lines::counts(text, steps, tracks, room, n, lengths.len(), checked.a);
-    trains(text, end, lengths, inbound, codes, tracks, room, steps)
-}
-
-// The lines of the trains of a plan that check accepts, as its replay builds them.
-fn trains(
-    text: &mut [u8],
-    at: usize,
-    lengths: &[u16],
-    inbound: &[u16],
-    codes: &[u16],
-    tracks: usize,
-    room: usize,
-    steps: usize,
-) -> usize
-    requires { ⌜ at ≤ length (now text) ⌝ }
-    requires { ⌜ checkAnswer limits (planOf (now lengths) (now inbound) tracks room steps (now codes)) .number ≡ 0 ⌝ }
-    ensures { λ r. ⌜ Adds (trainLines (planOf (now (lengths .entry)) (now (inbound .entry)) tracks room steps (now (codes .entry))))
-        (now (text .entry)) at r (now (text .exit)) ⌝ }
-{
-    let mut on = [0u16; CARS];
-    let mut places = [0u16; CARS];
-    plans::replay(
-        lengths,
-        inbound,
-        codes,
-        tracks,
-        room,
-        steps,
-        steps,
-        &mut on,
-        &mut places,
-    );
-    let n = inbound.len();
-    lines::trains(text, at, lengths, tracks, &on[0..n], &places[0..n])
+    lines::trains(text, end, lengths)
 }
 
 // The card of the plan that is derived for a night with limit 8, or the refusal: derive's, or the
