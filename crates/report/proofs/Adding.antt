@@ -7,6 +7,7 @@ use native.Mathlib.Numerals.{add-one}
 use native.Mathlib.Omega.{arith}
 use lib.ListN.{length, getD, take, drop, set, length-append, length-take, length-drop, length-set, take-append-drop}
 use lib.Seq.{length-take-le, take-all, take-suc, take-suc-set, take-append-le, take-append-seam, drop-append-seam, drop-drop, drop-set-lt}
+use Rattle.io.specs.Counts.{Counts}
 use Rattle.report.specs.Text.{Adds}
 
 -- what is left off once need not be looked at again
@@ -109,3 +110,7 @@ adds-next piece i w f g = adds-same (sym (ap (λ k. take k piece) (add-one i) �
 
 pub adds-all : {x y : List ℕ} {at end : ℕ} (piece : List ℕ) (i : ℕ) → length piece ≤ i → Adds (take i piece) x at end y → Adds piece x at end y
 adds-all piece i w f = adds-same (take-all i piece w) f
+
+-- where the text ends is a count of the buffer's bytes
+pub adds-end : {piece before after : List ℕ} {at r : ℕ} → Adds piece before at r after → Adds piece before at r after × Counts r after
+adds-end {after = after} {r = r} f = (f, (f .within, sym (length-take-le r after (f .within))))

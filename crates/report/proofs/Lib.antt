@@ -2,7 +2,6 @@
 pub mod Adding
 pub mod Numerals
 pub mod Listing
-pub mod Standing
 pub mod Yields
 pub mod Programs
 pub mod Cut

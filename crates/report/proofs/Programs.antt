@@ -13,25 +13,24 @@ use borrow.Author.Tests.{eq-eqb, ne-eqb, le-leb, lt-leb}
 use Rattle.yard.specs.declared.Answer.{Answer}
 use Rattle.yard.specs.declared.CardAnswer.{CardAnswer}
 use Rattle.yard.specs.Limits.{limits}
-use Rattle.yard.specs.Night.{Night, Plan, cars, itemOf, planOf}
+use Rattle.yard.specs.Night.{Night, Plan, cars, carsOf, planOf}
 use Rattle.yard.specs.Replay.{passes, built}
 use Rattle.yard.specs.Derived.{stepsNeeded, derivedCodes, derivedPlan}
-use Rattle.yard.specs.Answers.{says, written}
-use Rattle.yard.specs.Calls.{Checks, Replays, Derives, checkAnswer, replayAnswer, deriveAnswer, carTracks, carPlaces, deriveTests}
+use Rattle.yard.specs.Answers.{says}
+use Rattle.yard.specs.Demands.{BuildsTrains}
+use Rattle.yard.specs.Calls.{Checks, Derives, checkAnswer, deriveAnswer, deriveTests}
 use Rattle.yard.specs.Card.{card, cardPlan, headField, readerSays, readerVerdict, readerAnswer, writerTests, writerAnswer, Reads, Writes}
 use Rattle.yard.proofs.Lists.{length-upFrom}
 use Rattle.yard.proofs.Numbers.{le-or-lt}
-use Rattle.yard.proofs.Tests.{item-le-sum}
 use Rattle.yard.proofs.Verdict.{verdict-done, written-accepted, written-refused}
 use Rattle.yard.proofs.Card.{cardPlan-cars, cardPlan-codes}
 use Rattle.yard.proofs.CardCalls.{read-told}
 use Rattle.card.proofs.Calls.{plan-read}
 use Rattle.report.specs.Text.{Adds}
-use Rattle.report.specs.Lines.{refusalLine, countsLine, trainLine, eachTo, standingLine, frontFirst, Short}
+use Rattle.report.specs.Lines.{refusalLine, countsLine, trainLine, eachTo}
 use Rattle.report.specs.Programs.{unlessRefused, ofCard, trainLines, checkedLines, ofDerived, cardIn}
 use Rattle.report.proofs.Adding.{adds-same, adds-then, adds-front}
-use Rattle.report.proofs.Standing.{front-built}
-use Rattle.report.proofs.Yields.{Good, checked-good, checked-replays, derived-writes, derived-no-room}
+use Rattle.report.proofs.Yields.{Good, checked-good, derived-writes, derived-no-room}
 
 -- an answer that is done, and one that is not
 module _ (r : Answer) (out : List ℕ) where
@@ -67,52 +66,17 @@ each-same : (f g : ℕ → List ℕ) (n : ℕ) → ((t : ℕ) → 1 ≤ t → t 
 each-same f g zero same = refl
 each-same f g (suc n) same = ap₂ (λ (x y : List ℕ). x ++ y) (each-same f g n (λ t low high. same t low (omega arith))) (same (suc n) (omega arith) (omega arith))
 
--- what replay leaves in two buffers for a plan that check accepts
-module _
-    (p : Plan)
-    (accepted : checkAnswer limits p .number ≡ 0)
-    {on₀ at₀ on at : List ℕ}
-    {q : Answer}
-    (replays : Replays p (p .steps) on₀ at₀ q on at)
-    (a : length on₀ ≡ 512)
-    (b : length at₀ ≡ 512)
-  where
-    good : Good p
-    good = checked-good p accepted
-
-    done : replayAnswer limits p (p .steps) (length on₀) (length at₀) .number ≡ 0
-    unfolding good
-    done = checked-replays p accepted (length on₀) (length at₀) (omega (arith, a, good .cars)) (omega (arith, b, good .cars))
-
-    pub tracks-front : Front (carTracks p (p .steps)) on (length (p .night .inbound))
-    unfolding carTracks
-    tracks-front =
-        front (carTracks p (p .steps)) on₀ on (length (p .night .inbound)) (by-car-length _ (length (p .night .inbound)))
-        (replays .tracks ∙ written-accepted (replayAnswer limits p (p .steps) (length on₀) (length at₀)) (carTracks p (p .steps)) on₀ done)
-
-    pub places-front : Front (carPlaces p (p .steps)) at (length (p .night .inbound))
-    unfolding carPlaces
-    places-front =
-        front (carPlaces p (p .steps)) at₀ at (length (p .night .inbound)) (by-car-length _ (length (p .night .inbound)))
-        (replays .places ∙ written-accepted (replayAnswer limits p (p .steps) (length on₀) (length at₀)) (carPlaces p (p .steps)) at₀ done)
-
-    -- the lines of the trains from these are those of the trains as built
-    pub trains-built : eachTo (standingLine (p .night .lengths) (p .night .tracks) (take (length (p .night .inbound) - 0) on) (take (length (p .night .inbound) - 0) at)) (length (p .night .lengths)) ≡ trainLines p
-    unfolding good standingLine trainLines
-    trains-built =
-        each-same _ (λ t. trainLine t (built p t)) (length (p .night .lengths))
-        (λ t low high.
-        ap (trainLine t)
-        (ap₂ (λ (x y : List ℕ). frontFirst (p .night .tracks + t - 1) (itemOf (p .night .lengths) t) x y) (tracks-front .taken) (places-front .taken)
-        ∙ front-built p t (good .listed) (omega (arith, good .tracks .0)) (good .cars) (good .builds) (low, high)))
-
-pub good-short : (p : Plan) → Good p → Short (p .night .lengths)
-good-short p good = record { trains = good .trains; cars = λ i. omega (arith, item-le-sum (p .night .lengths) i, good .listed .adds, good .cars) }
+-- the lines of the trains of a plan that check accepts: each train as built is in order
+pub trains-built : (p : Plan) → Good p → eachTo (λ t. trainLine t (carsOf (p .night .lengths) t)) (length (p .night .lengths)) ≡ trainLines p
+unfolding trainLines BuildsTrains
+trains-built p good =
+    each-same (λ t. trainLine t (carsOf (p .night .lengths) t)) (λ t. trainLine t (built p t)) (length (p .night .lengths))
+    (λ t low high. ap (trainLine t) (sym (good .builds t (low, high))))
 
 -- the lines of a plan: check refuses it, or its counts and its trains are put out
 module _ (p : Plan) {r : Answer} (checks : Checks p r) where
-  pub check-done : r .number ≡ 0 → checkAnswer limits p .number ≡ 0
-  check-done e = sym (ap (λ q. q .number) (checks .answer)) ∙ e
+  pub plan-good : r .number ≡ 0 → Good p
+  plan-good e = checked-good p (sym (ap (λ q. q .number) (checks .answer)) ∙ e)
 
   counts : ℕ → List ℕ
   counts passes = countsLine (p .steps) (p .night .tracks) (p .night .room) (length (p .night .inbound)) (length (p .night .lengths)) passes
@@ -122,11 +86,15 @@ module _ (p : Plan) {r : Answer} (checks : Checks p r) where
   plan-refused h = refusal-told _ (checks .answer) h
 
   pub plan-done : r .number ≡ 0
-      → countsLine (p .steps) (p .night .tracks) (p .night .room) (length (p .night .inbound)) (length (p .night .lengths)) (r .a) ++ trainLines p ≡ checkedLines p
+      → countsLine (p .steps) (p .night .tracks) (p .night .room) (length (p .night .inbound)) (length (p .night .lengths)) (r .a) ++
+      eachTo (λ t. trainLine t (carsOf (p .night .lengths) t)) (length (p .night .lengths))
+      ≡ checkedLines p
   unfolding checkedLines counts
   plan-done e =
-      ap (λ q. counts (q .a) ++ trainLines p) (checks .answer)
-      ∙ sym (told-done (checkAnswer limits p) (counts (checkAnswer limits p .a) ++ trainLines p) (check-done e))
+      let answer = checkAnswer limits p in
+      ap (λ l. counts (r .a) ++ l) (trains-built p (plan-good e))
+      ∙ ap (λ q. counts (q .a) ++ trainLines p) (checks .answer)
+      ∙ sym (told-done answer (counts (answer .a) ++ trainLines p) (sym (ap (λ q. q .number) (checks .answer)) ∙ e))
 
 -- a program's card: the reader refuses it, or its plan is in hand
 reader-says : (bytes : List ℕ) (a b c : ℕ) → says (readerAnswer limits bytes a b c .number) (readerAnswer limits bytes a b c .a) (readerAnswer limits bytes a b c .b) ≡ readerVerdict limits bytes a b c

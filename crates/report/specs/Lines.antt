@@ -1,10 +1,6 @@
 -- The lines of document 01, in ASCII.
-use Prim.Native.Nat.{ℕ, zero, suc, _+_, _-_, _≤_}
-use mathlib.Core.Bool.{cond}
+use Prim.Native.Nat.{ℕ, zero, suc}
 use mathlib.Core.List.{List, [], _∷_, _++_}
-use lib.Dec.{eqb}
-use lib.ListN.{length, getD, take, set, replicate}
-use Rattle.yard.specs.Night.{itemOf}
 use Rattle.report.specs.Text.{numeral}
 
 -- "refused ", "train ", and the words of the first line, each with the blank behind it; those after the first with the blank before it too
@@ -62,26 +58,7 @@ carList (car ∷ cars) = named blank car ++ carList cars
 unfoldable pub trainLine : ℕ → List ℕ → List ℕ
 trainLine train cars = named trainWord train ++ (colon ++ (carList cars ++ lineFeed))
 
--- each car of a track put at its place, from the lists of tracks and places by car, the first being car
-abbrev pub placed : ℕ → ℕ → List ℕ → List ℕ → List ℕ → List ℕ
-placed track car [] places into = into
-placed track car (t ∷ tracks) [] into = into
-placed track car (t ∷ tracks) (place ∷ places) into = placed track (suc car) tracks places (cond (eqb t track) (set into place car) into)
-
--- the first cars of a track, front first
-unfoldable pub frontFirst : ℕ → ℕ → List ℕ → List ℕ → List ℕ
-frontFirst track count tracks places = take count (placed track 1 tracks places (replicate 512 0))
-
 -- the texts of 1 to n, one behind the other
 abbrev pub eachTo : (ℕ → List ℕ) → ℕ → List ℕ
 eachTo text zero = []
 eachTo text (suc n) = eachTo text n ++ text (suc n)
-
--- the line of a train from the lists of tracks and places by car
-unfoldable pub standingLine : List ℕ → ℕ → List ℕ → List ℕ → ℕ → List ℕ
-standingLine lengths W tracks places train = trainLine train (frontFirst (W + train - 1) (itemOf lengths train) tracks places)
-
--- no more trains, and no more cars in one, than a night has
-pub record Short (lengths : List ℕ) : Type 0 where
-  pub trains : length lengths ≤ 64
-  pub cars : (i : ℕ) → getD lengths i 0 ≤ 512

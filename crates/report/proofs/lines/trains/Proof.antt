@@ -1,53 +1,62 @@
 -- The proof of `trains`: the lines of the trains passed stand behind the first bytes.
-use Prim.Native.Nat.{_-_, _≤_}
-use mathlib.Core.Path.{_≡_, ap}
+use Prim.Native.Nat.{suc, _-_, _≤_}
+use mathlib.Core.Path.{_≡_, ap, _∙_}
 use native.Mathlib.Omega.{arith}
 use denote.Ref.{now}
-use lib.ListN.{length}
+use lib.ListN.{length, take}
+use Rattle.yard.specs.Night.{sum, carsOf}
+use Rattle.yard.proofs.Trains.{train-end}
 use Rattle.report.specs.Text.{Adds}
-use Rattle.report.specs.Lines.{eachTo, standingLine}
+use Rattle.report.specs.Lines.{trainLine, eachTo}
 use Rattle.report.proofs.Adding.{adds-none, adds-same}
-use Rattle.report.proofs.Listing.{adds-train}
+use Rattle.report.proofs.Listing.{adds-train, next-first}
 use Rattle.report.proofs.lines.trains.Statement.{statement}
 use Rattle.report.proofs.lines.trains.Tie as tie
 
 abbrev Inv-loop : tie.InvT-loop
-Inv-loop text₀ at lengths tracks on places end₀ i₀ i-end text end i = (i ≤ length lengths) × Adds (eachTo (standingLine lengths tracks on places) i) text₀ at end text
+Inv-loop text₀ at lengths end₀ first₀ i₀ i-end text end first i =
+    (i ≤ length lengths) × (first ≡ suc (sum (take i lengths))) × Adds (eachTo (λ t. trainLine t (carsOf lengths t)) i) text₀ at end text
 
 abbrev μ-loop : tie.MeasureT-loop
-μ-loop text₀ at lengths tracks on places end₀ i₀ i-end text end i = length lengths - i
+μ-loop text₀ at lengths end₀ first₀ i₀ i-end text end first i = length lengths - i
 
 loop-holds : tie.Need-loop-holds Inv-loop μ-loop
-loop-holds c =
-    let args = c .before .before .before .before .args in
-    (omega arith, adds-none (now (args .text)) (args .at) (omega arith))
+loop-holds c = (omega arith, omega arith, adds-none (now (c .before .before .args .text)) (c .before .before .args .at) (omega arith))
 
-built-requires : tie.Need-built-requires Inv-loop μ-loop
-built-requires c κs =
+train-requires : tie.Need-train-requires Inv-loop μ-loop
+train-requires c κs =
     let at-loop = c .before .before .before .before in
-    let at-start = at-loop .before .before .before .before .before in
-    let cars = at-start .pre .2 .cars (at-loop .loop .i) in
-    (at-loop .loop .inv .1 .within, omega (arith, c .wide .ensures, cars), at-start .pre .3, at-start .pre .4)
+    let lengths = now (at-loop .before .before .before .args .lengths) in
+    (at-loop .loop .inv .2 .within, omega (arith, c .before .wide .ensures, train-end lengths (at-loop .loop .i) (omega arith)))
+
+add-first : tie.Need-add-first Inv-loop μ-loop
+add-first c =
+    let at-loop = c .before .before .before .before .before .before .before in
+    let lengths = now (at-loop .before .before .before .args .lengths) in
+    omega (arith, c .before .before .before .before .wide .ensures, train-end lengths (at-loop .loop .i) (omega arith))
 
 loop-again : tie.Need-loop-again Inv-loop μ-loop
 loop-again c =
-    let at-built = c .before .before in
-    let at-wide = at-built .before in
-    let at-loop = at-wide .before .before .before .before in
-    let args = at-loop .before .before .before .before .before .args in (
+    let wide = c .before .before .before .before .wide in
+    let at-loop = c .before .before .before .before .before .before .before in
+    let lengths = now (at-loop .before .before .before .args .lengths) in
+    let i = at-loop .loop .i in
+    let first = at-loop .loop .first in
+    let inv = at-loop .loop .inv in (
       omega arith,
-      adds-train (now (args .lengths)) (now (args .on)) (now (args .places)) (args .tracks) (at-loop .loop .i) (at-wide .wide .result) (at-wide .wide .ensures) (at-loop .loop .inv .1) (at-built .built .ensures),
+      omega (arith, inv .1, wide .ensures, next-first lengths i (omega arith)),
+      adds-train lengths i first (wide .result) (inv .1) (wide .ensures) (inv .2) (c .before .before .train .ensures),
     )
 
 same-length : tie.Need-same-length Inv-loop μ-loop
-same-length c = c .before .loop .inv .1 .size
+same-length c = c .before .loop .inv .2 .size
 
 returns : tie.Need-returns Inv-loop μ-loop
 returns c =
     let at-loop = c .before in
-    let args = at-loop .before .before .before .before .before .args in
-    let all : at-loop .loop .i ≡ length (now (args .lengths)) = omega arith in
-    adds-same (ap (eachTo (standingLine (now (args .lengths)) (args .tracks) (now (args .on)) (now (args .places)))) all) (at-loop .loop .inv .1)
+    let lengths = now (at-loop .before .before .before .args .lengths) in
+    let all : at-loop .loop .i ≡ length lengths = omega arith in
+    adds-same (ap (eachTo (λ t. trainLine t (carsOf lengths t))) all) (at-loop .loop .inv .2)
 
 pub trains-spec : {M : Type 1} → statement M
 trains-spec =
@@ -58,10 +67,10 @@ trains-spec =
     loop-holds
     (λ c. omega arith)
     (λ c. omega arith)
-    (λ c. omega (arith, c .before .before .before .before .before .before .before .pre .2 .trains))
-    (λ c. omega arith)
     (λ c κs. tt)
-    built-requires
+    (λ c. omega arith)
+    train-requires
+    add-first
     (λ c. omega arith)
     (λ c. omega arith)
     loop-again
