@@ -13,7 +13,7 @@ from fractions import Fraction
 import altairpeg
 from altairpeg import AltairpegError, Derived, FileError, InputError, LibraryError, Night, Plan, Refusal
 from altairpeg import check, derive, fewest_tracks, price, read_card, read_card_file, replay, write_card
-from support import CARD, CODES, INBOUND, SHORT, Scratch, n
+from support import CARD, CODES, INBOUND, SHORT, Scratch, n, skipped
 
 try:
     import numpy
@@ -229,7 +229,7 @@ class Answers(Scratch):
                 self.assertNotIn(inspect.Signature.empty, kinds, name)
 
 
-@unittest.skipIf(numpy is None, "numpy is not installed")
+@skipped(numpy is None, "tests of numpy arrays, since numpy is not installed")
 class Numpy(Scratch):
     def test_arrays(self):
         for kind in ("u1", "u2", "i2", "i4", "i8", "u8", ">u2", ">i8", "O"):
