@@ -14,7 +14,7 @@ from support import CARD, PYTHON, Scratch, skipped
 NEEDED = ("pip", "setuptools", "wheel")
 MISSING = [name for name in NEEDED if importlib.util.find_spec(name) is None]
 # The command of docs/USING.md, but into a folder of its own.
-INSTALL = [sys.executable, "-m", "pip", "install", "--no-build-isolation", "--no-deps", "--no-index", "--disable-pip-version-check", "--quiet", "--target"]
+INSTALL = [sys.executable, *"-m pip install --no-build-isolation --no-deps --no-index --disable-pip-version-check --quiet --target".split()]
 
 
 @skipped(bool(MISSING), f"tests of pip install, since this Python has no {', no '.join(MISSING)}")
