@@ -2,7 +2,7 @@
 """./plan as a user meets it: what it shows, what it refuses, and what it leaves alone.
 
 Runs on the programs and the archive in target/, which `rt check nightcard nightplan` and `rt staticlib altairpeg` build. Each
-test works on a copy of the checkout in a folder with blanks in its name. Where a test is about when the prover is run, a
+test works on a copy of the checkout in a folder with an awkward name. Where a test is about when the prover is run, a
 stand-in takes the prover's place: it notes each call and copies the built programs to where rt would build them.
 """
 
@@ -18,6 +18,8 @@ import time
 import unittest
 from pathlib import Path
 
+# The name of the copy, with all that a script may stumble over.
+HERE = "it's a: \"check\" out $HOME"
 ROOT = Path(__file__).resolve().parent.parent
 BUILT = [Path("bin/nightcard"), Path("bin/nightplan"), Path("staticlib/libaltairpeg.a")]
 CARD = bytes.fromhex("12200C060203006030020280 40202D80")
@@ -45,6 +47,7 @@ fi
 echo 'fn yard::small: proved'
 echo 'rt: yard proved (unchanged since it was last proved)'
 echo "rt: $1 proved (3 s)"
+echo 'rt: ok, 10 crates proved'
 echo "end $1" >> "$RT_NOTES"
 """
 
@@ -61,17 +64,18 @@ class Checkout(unittest.TestCase):
         scratch = tempfile.TemporaryDirectory(prefix="a yard ")
         self.addCleanup(scratch.cleanup)
         self.scratch = Path(scratch.name)
-        self.here = self.scratch / "check out"
+        self.here = self.scratch / HERE
         self.notes = self.scratch / "notes"
         self.notes.touch()
         self.card = self.scratch / "first night.card"
         self.card.write_bytes(CARD)
         self._copy()
         self._stand_in()
+        (self.scratch / "for a while").mkdir()
         self.environment = {
             **{name: value for name, value in os.environ.items() if not name.startswith(("RT_", "ALTAIRPEG_", "PYTHON"))},
             "PATH": f"{self.scratch / 'bin'}:{os.environ['PATH']}",
-            "RT_NOTES": str(self.notes), "RT_BUILT": str(ROOT / "target"), "COLUMNS": "80",
+            "TMPDIR": str(self.scratch / "for a while"), "RT_NOTES": str(self.notes), "RT_BUILT": str(ROOT / "target"), "COLUMNS": "80",
             "RT_FAILS": "", "RT_IDLE": "", "RT_CHANGES": "", "RT_GATED": "",
         }
 
@@ -141,7 +145,7 @@ class Shown(Checkout):
 
     def test_link(self):
         (self.scratch / "links").mkdir()
-        (self.scratch / "links" / "one").symlink_to("../check out/plan")
+        (self.scratch / "links" / "one").symlink_to(f"../{HERE}/plan")
         (self.scratch / "two").symlink_to(self.scratch / "links" / "one")
         for link in ("links/one", "two"):
             self.assertEqual(self.plan(self.card, program=self.scratch / link, cwd="/"), (0, SHOWN, ""))
@@ -176,6 +180,19 @@ class Shown(Checkout):
     def test_reader_that_leaves(self):
         run = subprocess.run(["bash", "-c", '"$1" "$2" | true', "bash", self.here / "plan", self.card], capture_output=True, env=self.environment)
         self.assertEqual((run.stdout, run.stderr), (b"", b""))
+
+
+class Papers(Checkout):
+    """README and USING print what ./plan prints, and their commands can be typed as they stand."""
+
+    def test_first_card(self):
+        for paper in ("README.md", "docs/USING.md"):
+            text = (ROOT / paper).read_text()
+            self.assertIn("".join(f"    {line}\n" for line in SHOWN.splitlines()), text)
+            typed = [line[4:] for line in text.splitlines() if line.startswith(("    printf", "    ./plan first.card"))][:2]
+            run = subprocess.run(["bash", "-ec", "\n".join(typed)], cwd=self.here, env=self.environment, capture_output=True)
+            self.assertEqual((run.returncode, run.stdout.decode(), run.stderr), (0, SHOWN, b""), typed)
+            self.assertEqual((self.here / "first.card").read_bytes(), CARD)
 
 
 class WrongUse(Checkout):
@@ -414,7 +431,8 @@ class ReadOnly(Checkout):
         if os.geteuid() == 0:
             self.shield = ["unshare", "-m", "sh", "-c", READ_ONLY, str(self.here)]
             if shutil.which("unshare") is None or subprocess.run([*self.shield, "true"], capture_output=True).returncode != 0:
-                self.skipTest("root writes where it likes, and nothing can be mounted for reading only here")
+                print("plan: root writes where it likes and can't mount here, so no read-only checkout was tried", file=sys.stderr)
+                self.skipTest("no read-only checkout can be made")
         else:
             self.shield = []
 

@@ -2,8 +2,8 @@
 
 from __future__ import annotations
 
-# Okabe and Ito's colours, chosen so that colour-blind people tell them apart too, with grey in place of black.
-COLOURS = ("#56b4e9", "#e69f00", "#009e73", "#f0e442", "#0072b2", "#d55e00", "#cc79a7", "#bbbbbb")
+# Okabe and Ito's colours, chosen so that colour-blind people tell them apart too, with white in place of black.
+COLOURS = ("#56b4e9", "#e69f00", "#009e73", "#f0e442", "#0072b2", "#d55e00", "#cc79a7", "#ffffff")
 INK, PALE, PULLED, WRONG = "#1a1a1a", "#efefef", "#fff2cc", "#b00020"
 
 
