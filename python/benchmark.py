@@ -54,8 +54,9 @@ def bare(given):
         source.write_text(BARE)
         sizes = [f"-D{name}={globals()[name]}" for name in ("CARS", "NIGHTS", "ROUNDS", "REPEATS")]
         subprocess.run(["gcc", "-O2", *sizes, f"-I{INCLUDE}", source, building.archive(), "-o", program], check=True)
-        lists = b"".join(array("H", night.lengths).tobytes() for night in given) + b"".join(array("H", night.inbound).tobytes() for night in given)
-        return float(subprocess.run([program], input=lists, capture_output=True, check=True).stdout)
+        lists = [night.lengths for night in given] + [night.inbound for night in given]
+        data = b"".join(array("H", items).tobytes() for items in lists)
+        return float(subprocess.run([program], input=data, capture_output=True, check=True).stdout)
 
 
 def rate(given):
@@ -70,16 +71,21 @@ def rate(given):
     return NIGHTS * REPEATS / quickest
 
 
+def turned(night, form):
+    """A night with its lists in another form."""
+    return night._replace(lengths=form(night.lengths), inbound=form(night.inbound))
+
+
 def forms(given):
     """The same nights in the forms that users have them in."""
     yield "lists", given
-    yield "array('H')", [night._replace(lengths=array("H", night.lengths), inbound=array("H", night.inbound)) for night in given]
+    yield "array('H')", [turned(night, lambda items: array("H", items)) for night in given]
     try:
         import numpy
     except ImportError:
         return
     for kind in ("uint16", "int64"):
-        yield f"numpy {kind}", [night._replace(lengths=numpy.array(night.lengths, kind), inbound=numpy.array(night.inbound, kind)) for night in given]
+        yield f"numpy {kind}", [turned(night, lambda items: numpy.array(items, kind)) for night in given]
 
 
 def main():

@@ -57,7 +57,8 @@ def register(commands: Any) -> None:
         "batch",
         allow_abbrev=False,
         help="derive or check every card of a folder",
-        description="Derives every card of a folder anew, on all cores, and prints a table: a line of names, then one line for each card in the order of the files' names.",
+        description="Derives every card of a folder anew, on all cores, and prints a table: a line of names, then one line for "
+        "each card in the order of the files' names.",
         epilog="Exit status 1 if any card is refused, 2 if any file can't be read or written.",
     )
     parser.add_argument("folder", metavar="FOLDER", help="its cards are the files whose names end in .card")

@@ -51,7 +51,8 @@ def cached(source: Path) -> Path:
     try:
         data = source.read_bytes()
     except OSError as trouble:
-        raise LibraryError(f"{source} can't be read ({trouble.strerror}): run `rt staticlib altairpeg`, or let {VARIABLE} name libaltairpeg.a") from None
+        advice = f"run `rt staticlib altairpeg`, or let {VARIABLE} name libaltairpeg.a"
+        raise LibraryError(f"{source} can't be read ({trouble.strerror}): {advice}") from None
     digest = hashlib.sha256(" ".join(COMMAND).encode() + data).hexdigest()
     return cache() / f"libaltairpeg-{digest[:32]}.so"
 
@@ -60,7 +61,8 @@ def link(source: Path, made: Path) -> None:
     """Makes the shared object of an archive with gcc."""
     gcc = shutil.which(COMMAND[0])
     if gcc is None:
-        raise LibraryError(f"gcc is missing, which makes a shared object of {source}: install gcc, or an altairpeg that has its shared object")
+        advice = "install gcc, or an altairpeg that has its shared object"
+        raise LibraryError(f"gcc is missing, which makes a shared object of {source}: {advice}")
     command = [gcc, *(part.format(archive=source, made=made) for part in COMMAND[1:])]
     run = subprocess.run(command, stdin=subprocess.DEVNULL, capture_output=True, text=True, errors="replace")
     if run.returncode != 0:

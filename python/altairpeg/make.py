@@ -25,7 +25,8 @@ def register(commands: Any) -> None:
         allow_abbrev=False,
         help="make a card from numbers or a JSON file",
         description="Makes a night card. Without steps and codes it derives the plan with the fewest steps.",
-        epilog="Lists are numbers with commas or blanks between them. The JSON file has one object with the same names: lengths, inbound, tracks, room, and steps and codes where they are given.",
+        epilog="Lists are numbers with commas or blanks between them. The JSON file has one object with the same names: "
+        "lengths, inbound, tracks, room, and steps and codes where they are given.",
     )
     parser.add_argument("json", metavar="NIGHT.json", nargs="?", help="the night as JSON, or - for standard input")
     parser.add_argument("--lengths", type=_numbers, nargs="+", metavar="N", help="the cars of each outbound train")

@@ -45,6 +45,13 @@ def altairpeg(*arguments, **options):
     return python("-m", "altairpeg", *arguments, **options)
 
 
+def skipped(missing, word):
+    """Skips what can't be tried here, and says so even where unittest shows but a letter for it."""
+    if missing:
+        print(f"skipped: {word}", file=sys.stderr)
+    return unittest.skipIf(missing, word)
+
+
 class Scratch(unittest.TestCase):
     """Tests with a folder of their own, whose name has a blank."""
 

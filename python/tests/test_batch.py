@@ -46,7 +46,8 @@ class Batch(Scratch):
 
     def test_limit(self):
         self.card("a.card")
-        self.ran(altairpeg("batch", self.cards, "--limit", "1"), 1, f"{NAMES}a.card,5,2,0,,2,3,6,1,,,fewest steps above the limit (fewest steps 2)\n")
+        line = "a.card,5,2,0,,2,3,6,1,,,fewest steps above the limit (fewest steps 2)\n"
+        self.ran(altairpeg("batch", self.cards, "--limit", "1"), 1, NAMES + line)
 
     def test_a_file_that_cannot_be_read(self):
         self.card("b.card", SHORT)
@@ -81,8 +82,10 @@ class Batch(Scratch):
         self.card("a.card")
         empty = self.folder / "empty"
         empty.mkdir()
-        for given in ([], [empty], [self.folder / "missing"], [self.cards / "a.card"], [self.cards, "--jobs", "0"], [self.cards, "--jobs", "x"],
-                      [self.cards, "-o", self.cards], [self.cards, "--check", "-o", empty], [self.cards, "-o", self.cards / "a.card"]):
+        for given in (
+            [], [empty], [self.folder / "missing"], [self.cards / "a.card"], [self.cards, "--jobs", "0"], [self.cards, "--jobs", "x"],
+            [self.cards, "-o", self.cards], [self.cards, "--check", "-o", empty], [self.cards, "-o", self.cards / "a.card"],
+        ):
             run = altairpeg("batch", *given)
             self.assertEqual((run.stdout, run.returncode), (b"", 2), given)
             self.assertNotIn(b"Traceback", run.stderr)

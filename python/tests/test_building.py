@@ -8,7 +8,7 @@ from concurrent.futures import ThreadPoolExecutor
 
 from altairpeg import building
 from altairpeg.library import CALLS
-from support import Scratch, python
+from support import Scratch, python, skipped
 
 ASK = "import altairpeg; print(altairpeg.fewest_tracks(4))"
 TELL = """
@@ -102,7 +102,7 @@ class Building(Scratch):
     def test_a_folder_that_cannot_be_written(self):
         self.tells(r".*can't be written \(Not a directory\): .*", XDG_CACHE_HOME=str(self.file("a file", b"")))
 
-    @unittest.skipIf(os.geteuid() == 0, "root writes to every folder")
+    @skipped(os.geteuid() == 0, "the test of a read-only folder, since root writes to every folder")
     def test_a_read_only_folder(self):
         self.cache.mkdir()
         self.cache.chmod(0o500)

@@ -46,9 +46,10 @@ class Cards(Scratch):
     def test_wrong_usage(self):
         night = self.file("night.json", json.dumps(FIRST).encode())
         for given in (
-            [], NIGHT[:-2], [*NIGHT, "--steps", "2"], [*NIGHT, "--codes", "0"], [*NIGHT, night], [night, "--room", "3"], [*NIGHT, "--inbound", "a"],
-            [*NIGHT, "--unknown"], [*NIGHT, "--limit", "1", "--steps", "2", "--codes", "0"], [*NIGHT, "-o", ""], [*NIGHT, "-o", self.folder],
-            [*NIGHT, "-o", self.folder / "missing" / "new.card"], [self.folder / "missing.json"], [self.folder],
+            [], NIGHT[:-2], [*NIGHT, "--steps", "2"], [*NIGHT, "--codes", "0"], [*NIGHT, night], [night, "--room", "3"],
+            [*NIGHT, "--inbound", "a"], [*NIGHT, "--unknown"], [*NIGHT, "--limit", "1", "--steps", "2", "--codes", "0"],
+            [*NIGHT, "-o", ""], [*NIGHT, "-o", self.folder], [*NIGHT, "-o", self.folder / "missing" / "new.card"],
+            [self.folder / "missing.json"], [self.folder],
         ):
             with self.subTest(given):
                 self.wrong(altairpeg("card", *given))
@@ -91,14 +92,19 @@ class OneCard(Scratch):
         self.ran(altairpeg("price", self.card, *timings), 0, "steps 2 passes 11 price 5.75\n")
         self.ran(altairpeg("price", "--steps", "2", "--passes", "11", *timings), 0, "steps 2 passes 11 price 5.75\n")
         almost = "0.06250000000000000000000000000001"
-        self.ran(altairpeg("price", self.card, "--pull", "1.5", "--push", almost), 1, "", "refused 13 2 0: a timing not allowed (push): push is Decimal('0.06...000000000001')\n")
-        for given in ([self.card], timings, [self.card, *timings, "--steps", "2"], ["--steps", "2", *timings], [self.card, "--pull", "x", "--push", "1"]):
+        run = altairpeg("price", self.card, "--pull", "1.5", "--push", almost)
+        self.ran(run, 1, "", "refused 13 2 0: a timing not allowed (push): push is Decimal('0.06...000000000001')\n")
+
+    def test_price_of_what(self):
+        timings = ("--pull", "1.5", "--push", "0.25")
+        for given in ([self.card], timings, [self.card, *timings, "--steps", "2"], ["--steps", "2", *timings], [self.card, "--pull", "x"]):
             self.assertEqual(altairpeg("price", *given).returncode, 2)
 
     def test_refused_cards(self):
         short = self.file("short.card", SHORT)
-        for run in (altairpeg("check", short), altairpeg("derive", short), altairpeg("price", short, "--pull", "1", "--push", "1"), altairpeg("check", "-", input=SHORT)):
-            self.ran(run, 1, "", SHORT_LINE)
+        for command in (["check"], ["derive"], ["price", "--pull", "1", "--push", "1"]):
+            self.ran(altairpeg(*command, short), 1, "", SHORT_LINE)
+            self.ran(altairpeg(*command, "-", input=SHORT), 1, "", SHORT_LINE)
 
     def test_a_refusal_line_in_place_of_a_card(self):
         for command in ("check", "derive"):
@@ -124,8 +130,8 @@ class OneCard(Scratch):
 
 class Ends(Scratch):
     def test_usage(self):
-        for given in ([], ["unknown"], ["check"], ["check", "a", "b"], ["--unknown"], ["derive", "a", "--limit", "x"], ["derive", "a", "--lim", "8"]):
-            run = altairpeg(*given)
+        for given in ("", "unknown", "check", "check a b", "--unknown", "derive a --limit x", "derive a --lim 8"):
+            run = altairpeg(*given.split())
             self.assertEqual((run.stdout, run.returncode), (b"", 2))
             self.assertTrue(run.stderr.startswith(b"usage: altairpeg"))
 
@@ -158,12 +164,14 @@ class Ends(Scratch):
         """What commands say whose standard output is this, and how they end; Python finds out at once or at the last."""
         for unbuffered, commands in (("", ["check -", "derive - -o -", "--help"]), ("1", ["check -", "derive - -o -"])):
             for command in commands:
-                run = altairpeg(*command.split(), input=CARD, capture_output=False, stdout=out, stderr=subprocess.PIPE, set={"PYTHONUNBUFFERED": unbuffered})
+                streams = {"input": CARD, "capture_output": False, "stdout": out, "stderr": subprocess.PIPE}
+                run = altairpeg(*command.split(), set={"PYTHONUNBUFFERED": unbuffered}, **streams)
                 yield run.stderr, run.returncode
 
     def test_closed_streams(self):
         for closed, status in (("<&-", 2), (">&-", 2), ("2>&-", 0)):
-            run = subprocess.run(["sh", "-c", f'"$0" -m altairpeg check - {closed}', sys.executable], input=CARD, capture_output=True, cwd=PYTHON)
+            command = ["sh", "-c", f'"$0" -m altairpeg check - {closed}', sys.executable]
+            run = subprocess.run(command, input=CARD, capture_output=True, cwd=PYTHON)
             self.assertEqual(run.returncode, status, closed)
             self.assertNotIn(b"Traceback", run.stderr)
 

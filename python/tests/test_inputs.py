@@ -13,7 +13,7 @@ from fractions import Fraction
 import altairpeg
 from altairpeg import AltairpegError, Derived, FileError, InputError, LibraryError, Night, Plan, Refusal
 from altairpeg import check, derive, fewest_tracks, price, read_card, read_card_file, replay, write_card
-from support import CARD, CODES, INBOUND, SHORT, Scratch, n
+from support import CARD, CODES, INBOUND, SHORT, Scratch, n, skipped
 
 try:
     import numpy
@@ -93,7 +93,8 @@ class Lists(Scratch):
     def test_what_is_no_whole_number(self):
         for item in NOT_WHOLE:
             for name, call in self.calls([1, 2, item]).items():
-                with self.subTest(type(item).__name__, list=name), self.assertRaisesRegex(InputError, rf"^{name}\[2\] is .*, not a whole number$"):
+                message = rf"^{name}\[2\] is .*, not a whole number$"
+                with self.subTest(type(item).__name__, list=name), self.assertRaisesRegex(InputError, message):
                     call()
 
     def calls(self, given):
@@ -105,8 +106,10 @@ class Lists(Scratch):
         }
 
     def test_the_message_names_the_place(self):
-        self.assertEqual(str(self.refused(3, 4, 0, derive, Night([6], [3, 6, 1, -1, 2, 4], 2, 3))), "refused 3 4 0: inbound list not each car once (place 4): inbound[3] is -1")
-        self.assertEqual(self.refused(3, 1, 0, derive, Night([6], [10**5000, 6, 1, 5, 2, 4], 2, 3)).place, "inbound[0] is a number of 16610 bits")
+        refusal = self.refused(3, 4, 0, derive, Night([6], [3, 6, 1, -1, 2, 4], 2, 3))
+        self.assertEqual(str(refusal), "refused 3 4 0: inbound list not each car once (place 4): inbound[3] is -1")
+        refusal = self.refused(3, 1, 0, derive, Night([6], [10**5000, 6, 1, 5, 2, 4], 2, 3))
+        self.assertEqual(refusal.place, "inbound[0] is a number of 16610 bits")
         self.assertEqual(self.refused(2, 2, 0, derive, Night([7, -1], INBOUND, 2, 3)).place, "lengths[1] is -1")
         self.assertEqual(self.refused(2, 0, 0, derive, Night([7], INBOUND, 2, 3)).place, "sum(lengths) is 7, len(inbound) is 6")
         self.assertEqual(self.refused(7, 6, 0, check, Plan(n(), 2, [0, 0, 1, 1, 2, 4])).place, "codes[5] is 4")
@@ -144,7 +147,8 @@ class Counts(Scratch):
                 "code": lambda: fewest_tracks(given),
             }
             for name, call in calls.items():
-                with self.subTest(type(given).__name__, count=name), self.assertRaisesRegex(InputError, rf"^{name} is .*, not a whole number$"):
+                message = rf"^{name} is .*, not a whole number$"
+                with self.subTest(type(given).__name__, count=name), self.assertRaisesRegex(InputError, message):
                     call()
 
     def test_a_code_is_a_byte(self):
@@ -168,7 +172,8 @@ class Counts(Scratch):
 
 class Cards(Scratch):
     def test_bytes_like(self):
-        for card in (CARD, bytearray(CARD), memoryview(CARD), array("B", CARD), memoryview(bytes(byte for pair in zip(CARD, CARD) for byte in pair))[::2]):
+        doubled = bytes(byte for pair in zip(CARD, CARD) for byte in pair)
+        for card in (CARD, bytearray(CARD), memoryview(CARD), array("B", CARD), memoryview(doubled)[::2]):
             self.assertEqual(read_card(card), Plan(n(room=3), 2, CODES))
 
     def test_not_bytes(self):
@@ -229,7 +234,7 @@ class Answers(Scratch):
                 self.assertNotIn(inspect.Signature.empty, kinds, name)
 
 
-@unittest.skipIf(numpy is None, "numpy is not installed")
+@skipped(numpy is None, "tests of numpy arrays, since numpy is not installed")
 class Numpy(Scratch):
     def test_arrays(self):
         for kind in ("u1", "u2", "i2", "i4", "i8", "u8", ">u2", ">i8", "O"):
@@ -247,7 +252,8 @@ class Numpy(Scratch):
         self.refused(1, 1, 0, derive, Night([6], numpy.array([], "i8"), 2, 3))
 
     def test_told(self):
-        for inbound in (numpy.array(INBOUND, "f8"), numpy.array([INBOUND]), numpy.array([INBOUND]).T, numpy.array(3), numpy.int64(3), numpy.array(INBOUND, "M8[s]")):
+        rows = numpy.array([INBOUND])
+        for inbound in (numpy.array(INBOUND, "f8"), rows, rows.T, numpy.array(3), numpy.int64(3), numpy.array(INBOUND, "M8[s]")):
             self.assertRaisesRegex(InputError, "^inbound", derive, Night([6], inbound, 2, 3))
         self.assertRaisesRegex(InputError, "^card is .*, not a row of bytes$", read_card, numpy.zeros(5, "i8"))
 

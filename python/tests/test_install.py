@@ -9,15 +9,15 @@ import unittest
 
 import altairpeg
 from altairpeg import building
-from support import CARD, PYTHON, Scratch
+from support import CARD, PYTHON, Scratch, skipped
 
 NEEDED = ("pip", "setuptools", "wheel")
 MISSING = [name for name in NEEDED if importlib.util.find_spec(name) is None]
 # The command of docs/USING.md, but into a folder of its own.
-INSTALL = [sys.executable, "-m", "pip", "install", "--no-build-isolation", "--no-deps", "--no-index", "--disable-pip-version-check", "--quiet", "--target"]
+INSTALL = [sys.executable, *"-m pip install --no-build-isolation --no-deps --no-index --disable-pip-version-check --quiet --target".split()]
 
 
-@unittest.skipIf(MISSING, f"not installed: {', '.join(MISSING)}")
+@skipped(bool(MISSING), f"tests of pip install, since this Python has no {', no '.join(MISSING)}")
 class Install(Scratch):
     def setUp(self):
         super().setUp()
