@@ -19,12 +19,12 @@ use Rattle.yard.specs.Derived.{stepsNeeded, derivedCodes, derivedPlan}
 use Rattle.yard.specs.Answers.{says}
 use Rattle.yard.specs.Demands.{BuildsTrains}
 use Rattle.yard.specs.Calls.{Checks, Derives, checkAnswer, deriveAnswer, deriveTests}
-use Rattle.yard.specs.Card.{card, cardPlan, headField, readerSays, readerVerdict, readerAnswer, writerTests, writerAnswer, Reads, Writes}
+use Rattle.yard.specs.Card.{card, cardPlan, readerVerdict, readerAnswer, writerTests, writerAnswer, Reads, Writes}
 use Rattle.yard.proofs.Lists.{length-upFrom}
 use Rattle.yard.proofs.Numbers.{le-or-lt}
 use Rattle.yard.proofs.Verdict.{verdict-done, written-accepted, written-refused}
 use Rattle.yard.proofs.Card.{cardPlan-cars, cardPlan-codes}
-use Rattle.yard.proofs.CardCalls.{read-told}
+use Rattle.yard.proofs.CardCalls.{read-told, reader-says}
 use Rattle.card.proofs.Calls.{plan-read}
 use Rattle.report.specs.Text.{Adds}
 use Rattle.report.specs.Lines.{refusalLine, countsLine, trainLine, eachTo}
@@ -97,19 +97,10 @@ module _ (p : Plan) {r : Answer} (checks : Checks p r) where
       ∙ sym (told-done answer (counts (answer .a) ++ trainLines p) (sym (ap (λ q. q .number) (checks .answer)) ∙ e))
 
 -- a program's card: the reader refuses it, or its plan is in hand
-reader-says : (bytes : List ℕ) (a b c : ℕ) → says (readerAnswer limits bytes a b c .number) (readerAnswer limits bytes a b c .a) (readerAnswer limits bytes a b c .b) ≡ readerVerdict limits bytes a b c
-unfolding readerAnswer
-reader-says bytes a b c = go (readerVerdict limits bytes a b c) (eqb (readerVerdict limits bytes a b c .number) 0)
-  where
-    go : (v : Answer) (t : Bool)
-        → (let r = cond t (readerSays v (headField bytes 1) (headField bytes 2) (headField bytes 3) (headField bytes 4) (headField bytes 5)) (readerSays v 0 0 0 0 0) in says (r .number) (r .a) (r .b)) ≡ v
-    go v true = refl
-    go v false = refl
-
 module _ {bytes l i c : List ℕ} {r : CardAnswer} {l₁ i₁ c₁ : List ℕ} (reads : Reads bytes l i c r l₁ i₁ c₁) where
   module _ (out : Plan → List ℕ) (a : length l ≡ 64) (b : length i ≡ 512) (d : length c ≡ 512) where
     promised : says (r .number) (r .a) (r .b) ≡ readerVerdict limits bytes 64 512 512
-    promised = ap (λ q. says (q .number) (q .a) (q .b)) (rw (a, b, d) at (reads .answer)) ∙ reader-says bytes 64 512 512
+    promised = ap (λ q. says (q .number) (q .a) (q .b)) (rw (a, b, d) at (reads .answer)) ∙ reader-says limits bytes 64 512 512
 
     pub card-refused : (r .number ≡ 0 → ⊥) → refusalLine (r .number) (r .a) (r .b) ≡ ofCard out bytes
     card-refused h = refusal-told (out (cardPlan bytes)) promised h

@@ -109,17 +109,19 @@ pub record Told (p : Plan) (lengths₀ inbound₀ codes₀ : List ℕ) (r : Card
   pub inbound : inbound₁ ≡ p .night .inbound ++ drop (length (p .night .inbound)) inbound₀
   pub codes : codes₁ ≡ p .codes ++ drop (length (p .codes)) codes₀
 
--- the answer's number is the verdict's
-readerAnswer-number : (L : Limits) (bytes : List ℕ) (a b c : ℕ) → readerAnswer L bytes a b c .number ≡ readerVerdict L bytes a b c .number
+-- the answer's number, A and B are the verdict's
+pub reader-says : (L : Limits) (bytes : List ℕ) (a b c : ℕ)
+    → let r = readerAnswer L bytes a b c in
+    says (r .number) (r .a) (r .b) ≡ readerVerdict L bytes a b c
 unfolding readerAnswer
-readerAnswer-number L bytes a b c = go (eqb (v .number) 0)
+reader-says L bytes a b c = go (readerVerdict L bytes a b c) (eqb (readerVerdict L bytes a b c .number) 0)
   where
-    v : Answer
-    v = readerVerdict L bytes a b c
+    go : (v : Answer) (t : Bool) → let r = cond t (readerSays v (headOn bytes)) (readerSays v noHead) in says (r .number) (r .a) (r .b) ≡ v
+    go v true = refl
+    go v false = refl
 
-    go : (t : Bool) → cond t (readerSays v (headOn bytes)) (readerSays v noHead) .number ≡ v .number
-    go true = refl
-    go false = refl
+readerAnswer-number : (L : Limits) (bytes : List ℕ) (a b c : ℕ) → readerAnswer L bytes a b c .number ≡ readerVerdict L bytes a b c .number
+readerAnswer-number L bytes a b c = ap (λ (r : Answer). r .number) (reader-says L bytes a b c)
 
 readerAnswer-accepted : (L : Limits) (bytes : List ℕ) (a b c : ℕ)
     → readerVerdict L bytes a b c .number ≡ 0

@@ -28,6 +28,7 @@ pub mod Rights
 pub mod Demands
 pub mod CardDemands
 pub mod CardCalls
+pub mod CardCut
 pub mod PlanYard
 pub mod EarlySearch
 pub mod Trials
