@@ -24,7 +24,7 @@ use Rattle.yard.proofs.Verdict.{Passed}
 use Rattle.yard.proofs.Tests.{counts-passed}
 use Rattle.yard.proofs.Card.{cardLength-mono, cardLength-longest}
 use Rattle.yard.proofs.CardCalls.{reader-accepts}
-use Rattle.report.specs.Lines.{refusalLine}
+use Rattle.lines.specs.Lines.{refusalLine}
 use Rattle.report.specs.Programs.{ofCard}
 use Rattle.report.proofs.Programs.{told-refused}
 
@@ -112,7 +112,8 @@ module _ (a b c : ℕ) where
 
   reader-parts : (bytes : List ℕ)
       → readerVerdict limits bytes a b c
-      ≡ verdict (opening (leb 1 (length bytes)) (leb 5 (length bytes)) (heads bytes)) (body (heads bytes) (leb (right (heads bytes)) (length bytes)) (cardPlan bytes) (endsRight bytes))
+      ≡ verdict (opening (leb 1 (length bytes)) (leb 5 (length bytes)) (heads bytes))
+      (body (heads bytes) (leb (right (heads bytes)) (length bytes)) (cardPlan bytes) (endsRight bytes))
   unfolding readerVerdict headField rightLength heads right counts opening body
   reader-parts bytes = refl
 
@@ -126,10 +127,12 @@ module _ (a b c : ℕ) where
       let l = heads bytes in
       let n = length bytes in
       reader-parts bytes
-      ∙ ap₂ (λ (some five : Bool). verdict (opening some five l) (body l (leb (right l) n) (cardPlan bytes) (endsRight bytes))) (le-leb 1 n (omega arith)) (le-leb 5 n (omega arith))
+      ∙ ap₂ (λ (some five : Bool). verdict (opening some five l) (body l (leb (right l) n) (cardPlan bytes) (endsRight bytes)))
+      (le-leb 1 n (omega arith)) (le-leb 5 n (omega arith))
       ∙ verdict-same (opening true true l) (body l (leb (right l) n) (cardPlan bytes) (endsRight bytes)) (body l true p false) same
     where
-      same : Passed (opening true true (heads bytes)) → body (heads bytes) (leb (right (heads bytes)) (length bytes)) (cardPlan bytes) (endsRight bytes) ≡ body (heads bytes) true p false
+      same : Passed (opening true true (heads bytes))
+          → body (heads bytes) (leb (right (heads bytes)) (length bytes)) (cardPlan bytes) (endsRight bytes) ≡ body (heads bytes) true p false
       same (some, (edition, (five, passed))) =
           let l = heads bytes in
           ap (λ t. body l t (cardPlan bytes) (endsRight bytes)) (le-leb (right l) (length bytes) (omega (arith, right-most l passed)))
@@ -163,7 +166,9 @@ module _ (a b c : ℕ) where
   unfolding heads counts headField
   never-read bytes long e =
       let r = reader-accepts limits bytes a b c .0 e in
-      clash (r .ends) (too-long bytes long (counts-passed limits (headField bytes 4) (headField bytes 5) (headField bytes 2) (headField bytes 3) (headField bytes 1) .1 (r .counts)))
+      clash (r .ends)
+      (too-long bytes long
+      (counts-passed limits (headField bytes 4) (headField bytes 5) (headField bytes 2) (headField bytes 3) (headField bytes 1) .1 (r .counts)))
 
 -- What a program puts out for an input is what it puts out for its first bytes, of which it is given one more than any card has.
 pub input-cut : (out : Plan → List ℕ) (k : ℕ) (input : List ℕ) → 1238 ≤ k → ofCard out (take k input) ≡ ofCard out input
