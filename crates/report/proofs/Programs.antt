@@ -1,27 +1,27 @@
 -- Laws of the two programs: what is refused is told, and what is accepted is put out whole.
-use Prim.Native.Nat.{ℕ, zero, suc, _+_, _-_, _≤_}
+use Prim.Native.Nat.{ℕ, zero, suc, _-_, _≤_}
 use mathlib.Core.Path.{_≡_, refl, sym, ap, ap₂, _∙_, subst}
 use mathlib.Core.Bool.{Bool, true, false, cond}
 use mathlib.Core.Logic.{⊎-elim}
-use mathlib.Core.List.{List, _++_, map}
+use mathlib.Core.List.{List, _++_}
 use native.Mathlib.Nat.{sub-zero}
 use native.Mathlib.Omega.{arith}
 use lib.Dec.{leb, eqb}
-use lib.ListN.{length, take, drop, replicate, length-map, length-append, length-replicate}
+use lib.ListN.{length, take, drop, replicate, length-append, length-replicate}
 use lib.Seq.{take-append-seam}
 use borrow.Author.Tests.{eq-eqb, ne-eqb, le-leb, lt-leb}
 use Rattle.yard.specs.declared.Answer.{Answer}
 use Rattle.yard.specs.declared.CardAnswer.{CardAnswer}
 use Rattle.yard.specs.Limits.{limits}
-use Rattle.yard.specs.Night.{Night, Plan, cars, carsOf, planOf}
+use Rattle.yard.specs.Night.{Night, Plan, carsOf, planOf}
 use Rattle.yard.specs.Replay.{passes, built}
 use Rattle.yard.specs.Derived.{stepsNeeded, derivedCodes, derivedPlan}
 use Rattle.yard.specs.Answers.{says}
 use Rattle.yard.specs.Demands.{BuildsTrains}
 use Rattle.yard.specs.Calls.{Checks, Derives, checkAnswer, deriveAnswer, deriveTests}
 use Rattle.yard.specs.Card.{card, cardPlan, headField, readerSays, readerVerdict, readerAnswer, writerTests, writerAnswer, Reads, Writes}
-use Rattle.yard.proofs.Lists.{length-upFrom}
 use Rattle.yard.proofs.Numbers.{le-or-lt}
+use Rattle.yard.proofs.DerivedPlan.{length-by-car}
 use Rattle.yard.proofs.Verdict.{verdict-done, written-accepted, written-refused}
 use Rattle.yard.proofs.Card.{cardPlan-cars, cardPlan-codes}
 use Rattle.yard.proofs.CardCalls.{read-told}
@@ -58,18 +58,13 @@ empty-length n = length-replicate n 0
 pub record Front (items held : List ℕ) (n : ℕ) : Type 0 where
   pub within : n ≤ length held
   pub taken : take (n - 0) held ≡ items
-  pub size : length items ≡ n
 
 front : (items buffer held : List ℕ) (n : ℕ) → length items ≡ n → held ≡ items ++ drop (length items) buffer → Front items held n
 front items buffer held n e h =
     record {
       within = omega (arith, e, ap length h, length-append items (drop (length items) buffer));
       taken = ap (λ k. take k held) (sub-zero n ∙ sym e) ∙ ap (take (length items)) h ∙ take-append-seam items (drop (length items) buffer);
-      size = e;
     }
-
-by-car-length : (f : ℕ → ℕ) (n : ℕ) → length (map f (cars n)) ≡ n
-by-car-length f n = length-map (cars n) f ∙ length-upFrom 1 n
 
 -- the texts of 1 to n, each written another way
 each-same : (f g : ℕ → List ℕ) (n : ℕ) → ((t : ℕ) → 1 ≤ t → t ≤ n → f t ≡ g t) → eachTo f n ≡ eachTo g n
@@ -175,7 +170,7 @@ module _ (n : Night) {after : List ℕ} {r : Answer} (derives : Derives n 8 (emp
     pub derived-front : Front (derivedCodes n) after (length (n .inbound))
     unfolding derivedCodes
     derived-front =
-        front (derivedCodes n) (empty 512) after (length (n .inbound)) (by-car-length _ (length (n .inbound)))
+        front (derivedCodes n) (empty 512) after (length (n .inbound)) (length-by-car _ (length (n .inbound)))
         (derives .codes
         ∙ written-accepted (deriveAnswer limits n 8 (length (empty 512))) (derivedCodes n) (empty 512) (sym (ap (λ q. q .number) (derives .answer)) ∙ e))
 

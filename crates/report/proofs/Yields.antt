@@ -14,7 +14,7 @@ use Rattle.yard.specs.Derived.{derivedPlan}
 use Rattle.yard.specs.Answers.{says, listTest}
 use Rattle.yard.specs.Calls.{checkAnswer, deriveAnswer}
 use Rattle.yard.specs.Card.{card, writerTests, writerAnswer}
-use Rattle.yard.specs.Demands.{Within, Listed, BuildsTrains, AllHold, checkReasons, deriveReasons, writerReasons}
+use Rattle.yard.specs.Demands.{Listed, BuildsTrains, AllHold, checkReasons, deriveReasons, writerReasons}
 use Rattle.yard.proofs.Verdict.{verdict-passes, verdict-first, passed-append}
 use Rattle.yard.proofs.Demands.{check-accepts-exactly, derive-accepts-exactly, derive-least}
 use Rattle.yard.proofs.CardDemands.{writer-accepts-exactly}
@@ -24,14 +24,13 @@ use Rattle.yard.proofs.CardCalls.{written-longest}
 pub record Good (p : Plan) : Type 0 where
   pub cars : length (p .night .inbound) ≤ 512
   pub trains : length (p .night .lengths) ≤ 64
-  pub tracks : Within 1 8 (p .night .tracks)
   pub listed : Listed (p .night .lengths) (p .night .inbound)
   pub builds : BuildsTrains p
 
 module _ (p : Plan) where
   good-of : AllHold (checkReasons limits p) → Good p
   good-of (cars, (trains, (tracks, (room, (steps, (nonempty, (adds, (once, (coded, (below, (never, (roomy, (builds, _))))))))))))) =
-      record { cars = cars .1; trains = trains .1; tracks = tracks; listed = record { nonempty = nonempty; adds = adds; once = once }; builds = builds }
+      record { cars = cars .1; trains = trains .1; listed = record { nonempty = nonempty; adds = adds; once = once }; builds = builds }
 
   pub checked-good : checkAnswer limits p .number ≡ 0 → Good p
   checked-good e = good-of (check-accepts-exactly limits p .0 e)

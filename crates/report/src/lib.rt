@@ -60,8 +60,8 @@ fn put_out(card: &[u8], out: &mut [u8], anew: bool) -> usize
     )
 }
 
-// The lines of a plan: refused by check, or its counts and its trains as the replay built them, which are in order
-// (`trains-built` in proofs/Programs.antt).
+// The lines of a plan: refused by check, or its counts and its trains as the replay built them, which
+// are in order (`trains-built` in proofs/Programs.antt).
 fn plan(
     text: &mut [u8],
     lengths: &[u16],
