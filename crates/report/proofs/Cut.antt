@@ -11,7 +11,7 @@ use Rattle.yard.specs.Night.{Plan}
 use Rattle.yard.specs.Card.{cardPlan, readerVerdict}
 use Rattle.yard.proofs.Numbers.{le-or-lt}
 use Rattle.yard.proofs.CardCut.{reader-cut, long-refused}
-use Rattle.report.specs.Lines.{refusalLine}
+use Rattle.lines.specs.Lines.{refusalLine}
 use Rattle.report.specs.Programs.{ofCard}
 use Rattle.report.proofs.Programs.{told-refused}
 

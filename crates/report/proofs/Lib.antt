@@ -1,7 +1,4 @@
--- Laws that the proofs of this crate cite.
-pub mod Adding
-pub mod Numerals
-pub mod Listing
+-- Laws that the proofs of this crate cite, and what a caller has in hand.
 pub mod Yields
 pub mod Programs
 pub mod Cut

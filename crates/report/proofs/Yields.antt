@@ -14,7 +14,7 @@ use Rattle.yard.specs.Derived.{derivedPlan}
 use Rattle.yard.specs.Answers.{says, listTest}
 use Rattle.yard.specs.Calls.{checkAnswer, deriveAnswer, GoodPlan}
 use Rattle.yard.specs.Card.{card, writerTests, writerAnswer, Writable}
-use Rattle.yard.specs.Demands.{Within, Listed, BuildsTrains}
+use Rattle.yard.specs.Demands.{Listed, BuildsTrains}
 use Rattle.yard.proofs.Verdict.{verdict-passes, verdict-first, passed-append}
 use Rattle.yard.proofs.Demands.{check-accepts-exactly, derive-accepts-exactly, derive-least}
 use Rattle.yard.proofs.CardDemands.{writer-accepts-exactly}
@@ -24,7 +24,6 @@ use Rattle.yard.proofs.CardCalls.{written-longest}
 pub record Good (p : Plan) : Type 0 where
   pub cars : length (p .night .inbound) ≤ 512
   pub trains : length (p .night .lengths) ≤ 64
-  pub tracks : Within 1 8 (p .night .tracks)
   pub listed : Listed (p .night .lengths) (p .night .inbound)
   pub builds : BuildsTrains p
 
@@ -39,7 +38,6 @@ module _ (p : Plan) (accepted : checkAnswer limits p .number ≡ 0) where
       record {
         cars = counts .cars .1;
         trains = counts .trains .1;
-        tracks = counts .tracks;
         listed = whole .given .lists;
         builds = whole .builds;
       }

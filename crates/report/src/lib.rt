@@ -1,6 +1,4 @@
 // What the two programs put out for a card: document 01's lines, and the card of the derived plan.
-mod text; // text.rt: pieces of text, one behind the other
-mod lines; // lines.rt: document 01's lines
 mod edge; // edge.rt: the programs' reading and writing
 
 pub use edge::run_nightcard;
@@ -8,7 +6,7 @@ pub use edge::run_nightplan;
 ghost use lib.ListN.{length};
 ghost use Rattle.io.specs.Counts.{Counts};
 ghost use Rattle.yard.specs.Night.{nightOf, planOf};
-ghost use Rattle.report.specs.Text.{Adds};
+ghost use Rattle.lines.specs.Text.{Adds};
 ghost use Rattle.report.specs.Programs.{checkedLines, ofDerived, cardIn, outOf, ofCard, nightcardText, nightplanIn};
 
 // The most trains and cars of a night.
@@ -62,8 +60,8 @@ fn put_out(card: &[u8], out: &mut [u8], anew: bool) -> usize
     )
 }
 
-// The lines of a plan: refused by check, or its counts and its trains as the replay built them, which are in order
-// (`trains-built` in proofs/Programs.antt).
+// The lines of a plan: refused by check, or its counts and its trains as the replay built them, which
+// are in order (`trains-built` in proofs/Programs.antt).
 fn plan(
     text: &mut [u8],
     lengths: &[u16],

@@ -3,7 +3,7 @@ use native.Mathlib.Omega.{arith}
 use denote.Ref.{now}
 use borrow.Author.Needs.{needs}
 use Rattle.yard.specs.Night.{planOf}
-use Rattle.report.proofs.Adding.{adds-same, adds-then}
+use Rattle.lines.proofs.Adding.{adds-same, adds-then}
 use Rattle.report.proofs.Programs.{plan-good, plan-refused, plan-done}
 use Rattle.report.proofs.plan.Statement.{statement}
 use Rattle.report.proofs.plan.Tie as tie
@@ -39,12 +39,5 @@ returns-2 c =
 pub plan-spec : {M : Type 1} → statement M
 plan-spec =
     tie.close
-    (tie.spec
-    (λ c κs. search needs)
-    (λ c κs. search needs)
-    (λ c. search needs)
-    returns
-    (λ c κs. search needs)
-    trains-requires
-    (λ c. search needs)
+    (tie.spec (λ c κs. search needs) (λ c κs. search needs) (λ c. search needs) returns (λ c κs. search needs) trains-requires (λ c. search needs)
     returns-2)
