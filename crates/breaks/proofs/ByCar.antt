@@ -36,7 +36,7 @@ Places inbound places = (j : ℕ) → Within 1 (length inbound) j → itemOf pla
 
 pub places-by-car : (inbound : List ℕ) {before places : List ℕ} →
     Front (map (λ car. place car inbound) (cars (length inbound))) before (length inbound) places → Places inbound places
-places-by-car inbound front j w = front-item (j - 1) (omega arith) front ∙ by-car (λ car. place car inbound) (length inbound) j w
+places-by-car inbound front j w = front-item front (j - 1) (omega arith) ∙ by-car (λ car. place car inbound) (length inbound) j w
 
 -- ---- one train
 

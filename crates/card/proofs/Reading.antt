@@ -12,9 +12,10 @@ use Rattle.yard.specs.declared.CardAnswer.{CardAnswer}
 use Rattle.yard.specs.Limits.{limits}
 use Rattle.yard.specs.Night.{sum}
 use Rattle.yard.specs.Answers.{says, test, verdict, written}
-use Rattle.yard.specs.Card.{widths, unpacked, bitsOf, cardLength, headField, cardPlan, rightLength, endsRight, readerSays, readerVerdict, readerAnswer, Reads}
+use Rattle.yard.specs.Card.{Bytes, widths, unpacked, bitsOf, cardLength, headField, cardPlan, rightLength, endsRight, readerSays, readerVerdict, readerAnswer, Reads}
 use Rattle.yard.proofs.Verdict.{verdict-append, verdict-passes, verdict-nested, stops-all, goes-on-all, written-accepted, written-refused}
-use Rattle.yard.proofs.Tests.{Within, counts-passed}
+use Rattle.yard.specs.Demands.{InLimits}
+use Rattle.yard.proofs.Tests.{counts-passed}
 use Rattle.yard.proofs.Bits.{sum-replicate}
 use Rattle.yard.proofs.Card.{widths-sum, cardPlan-trains, cardPlan-cars, cardPlan-codes}
 use Rattle.yard.proofs.CardCalls.{reader-accepts}
@@ -123,7 +124,7 @@ module _ (bytes : List ℕ) (a b c : ℕ) {r : Answer} (head : r ≡ verdict (he
         after-head (goes-on-all (sizeTests (length bytes) h a b c) (listsAndEnd bytes h) (says 0 0 0) s sizes _ whole last)
 
 -- a head that passes is within the limits
-pub within-short : {n m W C h : ℕ} → Within limits n m W C h → Short h n m
+pub within-short : {n m W C h : ℕ} → InLimits limits n m W C h → Short h n m
 within-short w = record { steps = w .steps .1; cars = w .cars .1; trains = w .trains .1 }
 
 pub head-short : (size : ℕ) (h : Head) → verdict (headTests size h) (says 0 0 0) .number ≡ 0 → Short (h .steps) (h .cars) (h .trains)
@@ -134,6 +135,7 @@ head-short size h e =
 -- The call: with a head and a verdict in hand, the buffers after it are as they were, or hold the card's lists.
 module _
     (bytes l i c : List ℕ)
+    (given : Bytes bytes)
     {v : Answer}
     (judged : v ≡ readerVerdict limits bytes (length l) (length i) (length c))
   where
@@ -143,6 +145,7 @@ module _
         let w = readerVerdict limits bytes (length l) (length i) (length c) in
         let refused : w .number ≡ 0 → ⊥ = λ e. fails (ap (λ r. r .number) judged ∙ e) in
         record {
+          given = given;
           answer = told ∙ rw (ne-eqb (w .number) 0 refused) (ap (λ v. readerSays v 0 0 0 0 0) judged);
           lengths = sym (written-refused w (cardPlan bytes .night .lengths) l refused);
           inbound = sym (written-refused w (cardPlan bytes .night .inbound) i refused);
@@ -182,6 +185,7 @@ module _
       reads-accepted told =
           let w = readerVerdict limits bytes (length l) (length i) (length c) in
           record {
+            given = given;
             answer =
                 told
                 ∙ rw (eq-eqb (w .number) 0 accepted)

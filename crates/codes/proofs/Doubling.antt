@@ -128,4 +128,7 @@ written-none W pos (x ∷ s) m = rw (usable-gap W 0 0 pos, le-leb 1 W pos) (reco
 pub written-all : {items u : List ℕ} {r : ℕ} (s : List ℕ) → 0 < r → Front items (set s 0 0) r u → Front items s r u
 written-all [] m f = f
 written-all {r = zero} (x ∷ s) m f = absurd (omega arith)
-written-all {r = suc r} (x ∷ s) m f = record { number = f .number; listed = f .listed }
+written-all {items} {r = suc r} (x ∷ s) m f =
+    let same : drop (length items) (0 ∷ s) ≡ drop (length items) (x ∷ s) =
+    ap (λ (k : ℕ). drop k (0 ∷ s)) (sym (f .number)) ∙ ap (λ (k : ℕ). drop k (x ∷ s)) (f .number) in
+    record { number = f .number; listed = f .listed ∙ ap (λ (l : List ℕ). items ++ l) same }

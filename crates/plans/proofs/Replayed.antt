@@ -23,7 +23,7 @@ use Rattle.yard.proofs.Building.{order-ruled}
 use Rattle.yard.proofs.DerivedPlan.{by-car}
 use Rattle.yard.proofs.PlanYard.{passes-codes, pullSize-codes}
 use Rattle.yard.proofs.EarlySearch.{early-test}
-use Rattle.yard.proofs.Demands.{codes-passed}
+use Rattle.yard.proofs.Rights.{codes-passed}
 use Rattle.sorting.specs.Sums.{pullOf, setBelow, firstAbove, fullestOf}
 use Rattle.pairs.specs.Pairs.{unruledAt}
 use Rattle.plans.specs.Closed.{waitTest, fullTest, soundTests, firstPair, pairTest}

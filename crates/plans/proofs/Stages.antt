@@ -80,7 +80,7 @@ module _ (lengths inbound codes : List ℕ) (W h stage : ℕ) (on at : List ℕ)
     item-track : (car : ℕ) → Within 1 (length inbound) car → itemOf on₁ car ≡ trackBy lengths codes W h stage car
     item-track car w =
         let v : Within 1 (length codes) car = (w .0, omega (arith, w .1, p .counted .each)) in
-        front-item (car - 1) (omega (arith, v .0, v .1)) fills ∙ by-car (trackBy lengths codes W h stage) (length codes) car v
+        front-item fills (car - 1) (omega (arith, v .0, v .1)) ∙ by-car (trackBy lengths codes W h stage) (length codes) car v
 
     pub standable : Standable order on₁ at
     standable =

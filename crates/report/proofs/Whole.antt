@@ -10,7 +10,8 @@ use native.Mathlib.Omega.{arith}
 use lib.Dec.{eqb, ltb}
 use lib.ListN.{length, getD, take, length-append}
 use lib.Seq.{take-suc, take-all}
-use borrow.Author.Tests.{lt-ltb, eqb-true}
+use borrow.Author.Tests.{lt-ltb, le-leb, eqb-true}
+use Rattle.yard.specs.declared.Answer.{Answer}
 use Rattle.io.specs.Digits.{glyph, digits}
 use Rattle.yard.specs.Words.{upFrom, first}
 use Rattle.yard.specs.Limits.{limits}
@@ -18,16 +19,15 @@ use Rattle.yard.specs.Night.{Plan, sum}
 use Rattle.yard.specs.Replay.{built}
 use Rattle.yard.specs.Derived.{derivedPlan}
 use Rattle.yard.specs.Calls.{checkAnswer, deriveAnswer}
-use Rattle.yard.specs.Card.{card, cardPlan, readerAnswer, writerAnswer}
+use Rattle.yard.specs.Card.{card, cardPlan, readerVerdict}
 use Rattle.yard.specs.Demands.{BuildsTrains}
 use Rattle.yard.proofs.First.{first-le, first-least}
 use Rattle.yard.proofs.Lists.{total-append}
 use Rattle.yard.proofs.Trains.{itemOf-suc, train-end}
-use Rattle.yard.proofs.CardCalls.{written-longest}
 use Rattle.report.specs.Text.{width, numeral, Adds}
 use Rattle.report.specs.Lines.{refusedWord, trainWord, stepsWord, tracksWord, roomWord, carsWord, trainsWord, passesWord, blank, colon, lineFeed, named, refusalLine, countsLine, carList, trainLine, eachTo}
-use Rattle.report.specs.Programs.{unlessRefused, planLines, checkedLines, nightcardText, writtenCard, derivedCard, nightplanBytes}
-use Rattle.report.proofs.Programs.{Good, checked-good}
+use Rattle.report.specs.Programs.{unlessRefused, trainLines, checkedLines, nightcardText, ofDerived, cardIn, nightplanBytes, nightplanIn}
+use Rattle.report.proofs.Yields.{Good, checked-good, derived-longest}
 
 -- numbers: none has more than 21 digits here, and one below 10^k no more than k
 digits-length : (b k n : ℕ) → length (digits b k n) ≡ k
@@ -96,42 +96,63 @@ module _ (p : Plan) (good : Good p) where
       let line : length (trainLine (suc k) (built p (suc k))) ≤ 10 + 4 * len = subst (λ (l : List ℕ). length (trainLine (suc k) l) ≤ 10 + 4 * len) (sym made) (train-short (suc k) head len (omega (arith, good .trains)) (omega (arith, train-end lengths k w, good .listed .adds, good .cars))) in
       omega (arith, length-append (eachTo (λ t. trainLine t (built p t)) k) (trainLine (suc k) (built p (suc k))), line, more, lines-short k (omega arith))
 
-  plan-short : (passes : ℕ) → length (planLines p passes) ≤ 4096
-  unfolding planLines
-  plan-short passes =
+  plan-short : (h W C n passes : ℕ) → length (countsLine h W C n (length (p .night .lengths)) passes ++ trainLines p) ≤ 4096
+  unfolding trainLines
+  plan-short h W C n passes =
       let lengths = p .night .lengths in
       let m = length lengths in
-      let head = countsLine (p .steps) (p .night .tracks) (p .night .room) (length (p .night .inbound)) m passes in
-      let trains = eachTo (λ t. trainLine t (built p t)) m in
-      omega (arith, length-append head trains, counts-short (p .steps) (p .night .tracks) (p .night .room) (length (p .night .inbound)) m passes, lines-short m (le-refl m), ap sum (take-all m lengths (le-refl m)), good .trains, good .listed .adds, good .cars)
+      omega (
+        arith,
+        length-append (countsLine h W C n m passes) (trainLines p),
+        counts-short h W C n m passes,
+        lines-short m (le-refl m),
+        ap sum (take-all m lengths (le-refl m)),
+        good .trains,
+        good .listed .adds,
+        good .cars,
+      )
 
 -- what is put out or refused is short where what is put out is
-unless-short : (number a b : ℕ) (out : List ℕ) → (number ≡ 0 → length out ≤ 4096) → length (unlessRefused number a b out) ≤ 4096
-unless-short number a b out short = go (eqb number 0) refl
+unless-short : (r : Answer) (out : List ℕ) → (r .number ≡ 0 → length out ≤ 4096) → length (unlessRefused r out) ≤ 4096
+unless-short r out short = go (eqb (r .number) 0) refl
   where
-    go : (t : Bool) → eqb number 0 ≡ t → length (cond t out (refusalLine number a b)) ≤ 4096
-    go true e = short (eqb-true number 0 e)
-    go false e = refusal-short number a b
+    go : (t : Bool) → eqb (r .number) 0 ≡ t → length (cond t out (refusalLine (r .number) (r .a) (r .b))) ≤ 4096
+    go true e = short (eqb-true (r .number) 0 e)
+    go false e = refusal-short (r .number) (r .a) (r .b)
 
 pub nightcard-short : (bytes : List ℕ) → length (nightcardText bytes) ≤ 4096
 unfolding nightcardText checkedLines
 nightcard-short bytes =
     let p = cardPlan bytes in
-    let r = readerAnswer limits bytes 64 512 512 in
-    let c = checkAnswer limits p in
-    unless-short (r .number) (r .a) (r .b) (checkedLines p)
-    (λ _. unless-short (c .number) (c .a) (c .b) (planLines p (c .a)) (λ e. plan-short p (checked-good p c (record { answer = refl }) e) (c .a)))
+    let r = checkAnswer limits p in
+    unless-short (readerVerdict limits bytes 64 512 512) (checkedLines p)
+    (λ _.
+    unless-short r _
+    (λ e. plan-short p (checked-good p e) (p .steps) (p .night .tracks) (p .night .room) (length (p .night .inbound)) (r .a)))
 
-pub nightplan-short : (size : ℕ) (bytes : List ℕ) → length (nightplanBytes size bytes) ≤ 4096
-unfolding nightplanBytes derivedCard writtenCard
-nightplan-short size bytes =
+pub nightplan-short : (bytes : List ℕ) → length (nightplanBytes bytes) ≤ 4096
+unfolding nightplanBytes ofDerived
+nightplan-short bytes =
     let n = cardPlan bytes .night in
-    let r = readerAnswer limits bytes 64 512 512 in
-    let d = deriveAnswer limits n 8 512 in
-    let w = writerAnswer limits (derivedPlan n) size in
-    unless-short (r .number) (r .a) (r .b) (derivedCard size n)
-    (λ _. unless-short (d .number) (d .a) (d .b) (writtenCard size (derivedPlan n))
-    (λ _. unless-short (w .number) (w .a) (w .b) (card (derivedPlan n)) (λ e. omega (arith, written-longest (derivedPlan n) size e))))
+    unless-short (readerVerdict limits bytes 64 512 512) (ofDerived card n)
+    (λ _. unless-short (deriveAnswer limits n 8 512) (card (derivedPlan n)) (λ e. omega (arith, derived-longest n e)))
+
+-- The writer's refusal never comes: a buffer that holds the longest card holds that of the derived plan.
+unless-same : (r : Answer) (x y : List ℕ) → (r .number ≡ 0 → x ≡ y) → unlessRefused r x ≡ unlessRefused r y
+unless-same r x y same = go (eqb (r .number) 0) refl
+  where
+    go : (t : Bool) → eqb (r .number) 0 ≡ t → cond t x (refusalLine (r .number) (r .a) (r .b)) ≡ cond t y (refusalLine (r .number) (r .a) (r .b))
+    go true e = same (eqb-true (r .number) 0 e)
+    go false e = refl
+
+pub nightplan-fits : (size : ℕ) (bytes : List ℕ) → 1237 ≤ size → nightplanIn size bytes ≡ nightplanBytes bytes
+unfolding nightplanIn nightplanBytes ofDerived
+nightplan-fits size bytes enough =
+    let n = cardPlan bytes .night in
+    let p = derivedPlan n in
+    ap (unlessRefused (readerVerdict limits bytes 64 512 512))
+    (unless-same (deriveAnswer limits n 8 512) (cardIn size p) (card p)
+    (λ e. ap (λ b. cond b (card p) (refusalLine 4 6 0)) (le-leb (length (card p)) size (omega (arith, derived-longest n e)))))
 
 -- so a buffer of that size holds all of it
 pub adds-whole : {out before after : List ℕ} {end : ℕ} → length out ≤ 4096 → 4096 ≤ length before → Adds out before 0 end after → take end after ≡ out

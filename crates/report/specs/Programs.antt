@@ -1,52 +1,59 @@
 -- What the two programs put out for a card.
 use Prim.Native.Nat.{ℕ}
-use mathlib.Core.Bool.{cond}
+use mathlib.Core.Bool.{Bool, true, false, cond}
 use mathlib.Core.List.{List, _++_}
-use lib.Dec.{eqb}
+use lib.Dec.{leb, eqb}
 use lib.ListN.{length}
+use Rattle.yard.specs.declared.Answer.{Answer}
 use Rattle.yard.specs.Limits.{limits}
 use Rattle.yard.specs.Night.{Night, Plan}
 use Rattle.yard.specs.Replay.{built}
 use Rattle.yard.specs.Derived.{derivedPlan}
 use Rattle.yard.specs.Calls.{checkAnswer, deriveAnswer}
-use Rattle.yard.specs.Card.{card, cardPlan, readerAnswer, writerAnswer}
+use Rattle.yard.specs.Card.{card, cardPlan, readerVerdict}
 use Rattle.report.specs.Lines.{refusalLine, countsLine, trainLine, eachTo}
 
 -- what is put out where an answer is done, and its refusal line where it is not
-abbrev pub unlessRefused : ℕ → ℕ → ℕ → List ℕ → List ℕ
-unlessRefused number a b out = cond (eqb number 0) out (refusalLine number a b)
+abbrev pub unlessRefused : Answer → List ℕ → List ℕ
+unlessRefused r out = cond (eqb (r .number) 0) out (refusalLine (r .number) (r .a) (r .b))
 
--- the counts of a plan with its passes, then each train as the replay built it, front first
-unfoldable pub planLines : Plan → ℕ → List ℕ
-planLines p passes =
-    countsLine (p .steps) (p .night .tracks) (p .night .room) (length (p .night .inbound)) (length (p .night .lengths)) passes ++
-    eachTo (λ t. trainLine t (built p t)) (length (p .night .lengths))
+-- what is put out for the plan of a card that the reader accepts; the program's buffers hold any night
+abbrev pub ofCard : (Plan → List ℕ) → List ℕ → List ℕ
+ofCard out bytes =
+    unlessRefused (readerVerdict limits bytes (limits .trains) (limits .cars) (limits .cars)) (out (cardPlan bytes))
 
+-- each train of a plan as the replay built it, front first
+unfoldable pub trainLines : Plan → List ℕ
+trainLines p = eachTo (λ t. trainLine t (built p t)) (length (p .night .lengths))
+
+-- a plan checked: its counts with the passes that check answers, then its trains
 unfoldable pub checkedLines : Plan → List ℕ
 checkedLines p =
     let r = checkAnswer limits p in
-    unlessRefused (r .number) (r .a) (r .b) (planLines p (r .a))
-
--- what the reader says to a program, whose buffers hold any night
-abbrev pub ofCard : (Plan → List ℕ) → List ℕ → List ℕ
-ofCard out bytes =
-    let r = readerAnswer limits bytes (limits .trains) (limits .cars) (limits .cars) in
-    unlessRefused (r .number) (r .a) (r .b) (out (cardPlan bytes))
+    let n = p .night in
+    let counts = countsLine (p .steps) (n .tracks) (n .room) (length (n .inbound)) (length (n .lengths)) (r .a) in
+    unlessRefused r (counts ++ trainLines p)
 
 -- nightcard: the plan of the card, checked
 unfoldable pub nightcardText : List ℕ → List ℕ
 nightcardText bytes = ofCard checkedLines bytes
 
--- nightplan: the card of the plan that is derived for the card's night with limit 8; the buffer has this size
-unfoldable pub writtenCard : ℕ → Plan → List ℕ
-writtenCard size p =
-    let r = writerAnswer limits p size in
-    unlessRefused (r .number) (r .a) (r .b) (card p)
+-- what is put out for the plan that is derived for a night with limit 8
+unfoldable pub ofDerived : (Plan → List ℕ) → Night → List ℕ
+ofDerived out n = unlessRefused (deriveAnswer limits n 8 (limits .cars)) (out (derivedPlan n))
 
-unfoldable pub derivedCard : ℕ → Night → List ℕ
-derivedCard size n =
-    let r = deriveAnswer limits n 8 (limits .cars) in
-    unlessRefused (r .number) (r .a) (r .b) (writtenCard size (derivedPlan n))
+-- nightplan: the card of the plan that is derived for the card's night
+unfoldable pub nightplanBytes : List ℕ → List ℕ
+nightplanBytes bytes = ofCard (λ p. ofDerived card (p .night)) bytes
 
-unfoldable pub nightplanBytes : ℕ → List ℕ → List ℕ
-nightplanBytes size bytes = ofCard (λ p. derivedCard size (p .night)) bytes
+-- the same into a buffer of this size: a card that it cannot hold is refused by 4, A 6
+abbrev pub cardIn : ℕ → Plan → List ℕ
+cardIn size p = cond (leb (length (card p)) size) (card p) (refusalLine 4 6 0)
+
+unfoldable pub nightplanIn : ℕ → List ℕ → List ℕ
+nightplanIn size bytes = ofCard (λ p. ofDerived (cardIn size) (p .night)) bytes
+
+-- both at once, as one function of the code has it: the plan derived anew, or checked as it is
+abbrev pub outOf : Bool → ℕ → Plan → List ℕ
+outOf true size p = ofDerived (cardIn size) (p .night)
+outOf false size p = checkedLines p

@@ -29,7 +29,9 @@ pub filled-all : (f : ℕ → ℕ) (n : ℕ) (done : ℕ → Type 0) (before now
 filled-all f n done before now l all r =
     record {
       number = sym (length-by-car f n);
-      listed = ext-getD 0 now (map f (cars n) ++ drop n before) (r .size ∙ long) (λ k m. ⊎-elim (λ far. late k far) (λ near. early k near) (le-or-lt n k));
+      listed =
+          ext-getD 0 now (map f (cars n) ++ drop n before) (r .size ∙ long) (λ k m. ⊎-elim (λ far. late k far) (λ near. early k near) (le-or-lt n k)) ∙
+          ap (λ (k : ℕ). map f (cars n) ++ drop k before) (sym (length-by-car f n));
     }
   where
     long : length before ≡ length (map f (cars n) ++ drop n before)

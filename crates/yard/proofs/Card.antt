@@ -11,7 +11,7 @@ use lib.Seq.{take-append-seam, drop-append-seam, drop-at, length-take-le}
 use borrow.Author.Tests.{eqb-true, eq-eqb}
 use Rattle.yard.specs.Words.{every}
 use Rattle.yard.specs.Night.{Plan, sum}
-use Rattle.yard.specs.Card.{widths, fields, packed, unpacked, wholeBytes, toBytes, bitsOf, cardLength, card, headField, cardPlan, rightLength, endsRight}
+use Rattle.yard.specs.Card.{Bytes, widths, fields, packed, unpacked, wholeBytes, toBytes, bitsOf, cardLength, card, headField, cardPlan, rightLength, endsRight}
 use Rattle.yard.proofs.Bools.{and-left, and-right, and-both}
 use Rattle.yard.proofs.Lists.{total-append}
 use Rattle.yard.proofs.Bits.{Below, Fits, fits-append, fits-run, fits-below, fits-split, sum-replicate, length-packed, length-unpacked, packed-below, unpacked-packed, packed-unpacked-enough, unpacked-fits, length-bitsOf, length-toBytes, bitsOf-below, bitsOf-toBytes, toBytes-bitsOf, toBytes-below, toBytes-zeros}
@@ -208,7 +208,7 @@ cardPlan-fields bytes e =
 
 -- a list of bytes that is a card: its edition is 1, and it ends where it should
 pub record IsCard (bytes : List ℕ) : Type 0 where
-  pub small : Below 256 bytes
+  pub small : Bytes bytes
   pub edition : headField bytes 0 ≡ 1
   pub ends : endsRight bytes ≡ true
 

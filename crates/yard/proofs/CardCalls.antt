@@ -16,15 +16,16 @@ use Rattle.yard.specs.Limits.{Limits, limits}
 use Rattle.yard.specs.Night.{Plan}
 use Rattle.yard.specs.Answers.{says, test, listTest, codeTest}
 use Rattle.yard.specs.Calls.{countTests, nightCounts, nightTests}
-use Rattle.yard.specs.Card.{card, headField, cardPlan, rightLength, endsRight, writerTests, writerAnswer, Writes, readerTests, readerSays, readerVerdict, readerAnswer, Reads}
+use Rattle.yard.specs.Card.{Bytes, card, headField, cardPlan, rightLength, endsRight, writerTests, writerAnswer, Writes, readerTests, readerSays, readerVerdict, readerAnswer, Reads}
 use Rattle.yard.proofs.Verdict.{Passed, passed-append, verdict-passes, verdict-done, written-accepted}
-use Rattle.yard.proofs.Tests.{asks, Within, counts-passed, list-passed, sum-passed, code-passed, inbound-within, item-le-sum}
+use Rattle.yard.specs.Demands.{InLimits}
+use Rattle.yard.proofs.Tests.{asks, counts-passed, list-passed, sum-passed, code-passed, inbound-within, item-le-sum}
 use Rattle.yard.proofs.Bits.{Below}
 use Rattle.yard.proofs.Card.{card-length, cardLength-head, card-longest, Fitting, card-head, cardPlan-card, card-right-length, card-ends-right, cardPlan-head, IsCard, card-cardPlan, cardPlan-fitting}
 
 -- The writer accepts exactly if counts and lists pass, codes fit, and the buffer is long enough.
 pub record Writable (L : Limits) (p : Plan) (size : ℕ) : Type 0 where
-  pub counts : Within L (length (p .night .inbound)) (length (p .night .lengths)) (p .night .tracks) (p .night .room) (p .steps)
+  pub counts : InLimits L (length (p .night .inbound)) (length (p .night .lengths)) (p .night .tracks) (p .night .room) (p .steps)
   pub night : Passed (nightTests (p .night))
   pub coded : length (p .codes) ≡ length (p .night .inbound)
   pub codes : Below (2 ^ p .steps) (p .codes)
@@ -61,7 +62,7 @@ writer-accepts L p size =
 pub record Readable (L : Limits) (bytes : List ℕ) (a b c : ℕ) : Type 0 where
   pub edition : headField bytes 0 ≡ 1
   pub head : 5 ≤ length bytes
-  pub counts : Within L (headField bytes 4) (headField bytes 5) (headField bytes 2) (headField bytes 3) (headField bytes 1)
+  pub counts : InLimits L (headField bytes 4) (headField bytes 5) (headField bytes 2) (headField bytes 3) (headField bytes 1)
   pub whole : rightLength bytes ≤ length bytes
   pub lengths : headField bytes 5 ≤ a
   pub inbound : headField bytes 4 ≤ b
@@ -177,13 +178,13 @@ written-read-back p size a b c e la lb lc =
     (reader-accepts limits (card p) a b c .1 readable, cardPlan-card p f)
 
 -- What the reader accepts is the card of its plan, and the writer accepts that plan.
-pub accepted-isCard : (L : Limits) (bytes : List ℕ) (a b c : ℕ) → Below 256 bytes → readerVerdict L bytes a b c .number ≡ 0 → IsCard bytes
+pub accepted-isCard : (L : Limits) (bytes : List ℕ) (a b c : ℕ) → Bytes bytes → readerVerdict L bytes a b c .number ≡ 0 → IsCard bytes
 accepted-isCard L bytes a b c small e =
     let r = reader-accepts L bytes a b c .0 e in
     record { small = small; edition = r .edition; ends = r .ends }
 
 pub accepted-is-the-card : (L : Limits) (bytes : List ℕ) (a b c size : ℕ)
-    → Below 256 bytes
+    → Bytes bytes
     → readerVerdict L bytes a b c .number ≡ 0
     → length bytes ≤ size
     → (card (cardPlan bytes) ≡ bytes) × (writerAnswer L (cardPlan bytes) size .number ≡ 0)
@@ -202,7 +203,7 @@ accepted-is-the-card L bytes a b c size small e h =
     } in
     (same, writer-accepts L (cardPlan bytes) size .1 writable)
 
-pub accepted-longest : (bytes : List ℕ) (a b c : ℕ) → Below 256 bytes → readerVerdict limits bytes a b c .number ≡ 0 → length bytes ≤ 1237
+pub accepted-longest : (bytes : List ℕ) (a b c : ℕ) → Bytes bytes → readerVerdict limits bytes a b c .number ≡ 0 → length bytes ≤ 1237
 accepted-longest bytes a b c small e =
     let back = accepted-is-the-card limits bytes a b c (length bytes) small e (le-refl (length bytes)) in
     rw (back .0) at (written-longest (cardPlan bytes) (length bytes) (back .1))
@@ -282,14 +283,13 @@ written-then-read {p} {before} {w} {after} {lengths₀} {inbound₀} {codes₀} 
 
 -- Read, then written: the bytes that came in go out.
 pub read-then-written : {bytes lengths₀ inbound₀ codes₀ : List ℕ} {r : CardAnswer} {lengths₁ inbound₁ codes₁ before : List ℕ} {w : Answer} {after : List ℕ}
-    → Below 256 bytes
     → Reads bytes lengths₀ inbound₀ codes₀ r lengths₁ inbound₁ codes₁
     → r .number ≡ 0
     → Writes (cardPlan bytes) before w after
     → length bytes ≤ length before
     → (w .number ≡ 0) × (take (w .a) after ≡ bytes)
-read-then-written {bytes} {lengths₀} {inbound₀} {codes₀} {before = before} small reads e writes h =
-    let back = accepted-is-the-card limits bytes (length lengths₀) (length inbound₀) (length codes₀) (length before) small (sym (reads-number reads) ∙ e) h in
+read-then-written {bytes} {lengths₀} {inbound₀} {codes₀} {before = before} reads e writes h =
+    let back = accepted-is-the-card limits bytes (length lengths₀) (length inbound₀) (length codes₀) (length before) (reads .given) (sym (reads-number reads) ∙ e) h in
     let accepted = ap (λ r. r .number) (writes .answer) ∙ back .1 in
     (accepted, written-bytes writes accepted ∙ back .0)
 

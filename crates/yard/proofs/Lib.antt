@@ -12,7 +12,9 @@ pub mod Sorting
 pub mod Standing
 pub mod Counting
 pub mod Trains
+pub mod Fronts
 pub mod Verdict
+pub mod Asks
 pub mod Bits
 pub mod Tests
 pub mod Card
@@ -22,7 +24,8 @@ pub mod Plans
 pub mod Building
 pub mod Least
 pub mod DerivedPlan
-pub mod Reasons
+pub mod PullOuts
+pub mod Rights
 pub mod Demands
 pub mod CardDemands
 pub mod PlanYard

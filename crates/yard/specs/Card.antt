@@ -1,7 +1,7 @@
 -- The night card: one list of field widths, from which writer and reader are both read.
-use Prim.Native.Nat.{ℕ, zero, suc, _+_, _*_, _/_, _%_, _^_}
+use Prim.Native.Nat.{ℕ, zero, suc, _+_, _*_, _/_, _%_, _^_, _≤_, _<_}
 use mathlib.Core.Path.{_≡_}
-use mathlib.Core.Bool.{Bool, cond, _&&_}
+use mathlib.Core.Bool.{Bool, true, cond, _&&_}
 use mathlib.Core.List.{List, [], _∷_, _++_}
 use lib.Dec.{leb, eqb}
 use lib.ListN.{length, getD, take, drop, replicate}
@@ -10,8 +10,13 @@ use Rattle.yard.specs.declared.CardAnswer.{CardAnswer}
 use Rattle.yard.specs.Words.{every}
 use Rattle.yard.specs.Limits.{Limits, limits}
 use Rattle.yard.specs.Night.{Night, Plan, sum}
-use Rattle.yard.specs.Answers.{says, test, verdict, written, countTest, listTest, codeTest}
-use Rattle.yard.specs.Calls.{countTests, nightCounts, nightTests}
+use Rattle.yard.specs.Demands.{InLimits, Listed, Given, CodesBelow}
+use Rattle.yard.specs.Answers.{says, verdict, written, Ask, answers, plain, lengthAsk, bufferAsk, codeAsk}
+use Rattle.yard.specs.Calls.{countAsks, listAsks, opening}
+
+-- a list of bytes, as every slice of bytes is
+abbrev pub Bytes : List ℕ → Type 0
+Bytes l = (i : ℕ) → getD l i 0 < 256
 
 -- The format: edition, h, W, C, n and m; m lengths and n inbound numbers; n codes of h bits.
 abbrev pub headWidths : List ℕ
@@ -63,17 +68,28 @@ unfoldable pub card : Plan → List ℕ
 card p = toBytes (packed (widths (p .steps) (length (p .night .inbound)) (length (p .night .lengths))) (fields p))
 
 -- The writer: a plan, and a lent buffer for the card.
+abbrev pub writerOwn : Plan → ℕ → List Ask
+writerOwn p size =
+    lengthAsk 3 (length (p .codes)) (length (p .night .inbound)) ∷
+    codeAsk (p .steps) (p .codes) ∷
+    bufferAsk 6 (length (card p)) size ∷
+    []
+
+abbrev pub writerAsks : Limits → Plan → ℕ → List Ask
+writerAsks L p size = opening L (p .night) (p .steps) [] (writerOwn p size)
+
 abbrev pub writerTests : Limits → Plan → ℕ → List Answer
-writerTests L p size =
-    nightCounts L (p .night) (p .steps) ++
-    (nightTests (p .night) ++
-    (listTest 3 (eqb (length (p .codes)) (length (p .night .inbound))) ∷
-    codeTest (p .steps) (p .codes) ∷
-    listTest 6 (leb (length (card p)) size) ∷
-    []))
+writerTests L p size = answers (writerAsks L p size)
 
 unfoldable pub writerAnswer : Limits → Plan → ℕ → Answer
 writerAnswer L p size = verdict (writerTests L p size) (says 0 (length (card p)) 0)
+
+-- all that the writer asks
+pub record Writable (L : Limits) (p : Plan) (size : ℕ) : Type 0 where
+  pub given : Given L (p .night) (p .steps)
+  pub each : length (p .codes) ≡ length (p .night .inbound)
+  pub below : CodesBelow (p .steps) (p .codes)
+  pub buffer : length (card p) ≤ size
 
 -- what the writer promises
 pub record Writes (p : Plan) (before : List ℕ) (r : Answer) (after : List ℕ) : Type 0 where
@@ -105,19 +121,48 @@ endsRight bytes =
     every (λ b. eqb b 0) (drop (sum (widths (headField bytes 1) (headField bytes 4) (headField bytes 5))) (bitsOf bytes)) &&
     eqb (length bytes) (rightLength bytes)
 
+-- 10: a card too short, A the bytes needed, as far as known
+abbrev pub bytesAsk : ℕ → List ℕ → Ask
+bytesAsk needed bytes = plain 10 (leb needed (length bytes)) needed (needed ≤ length bytes)
+
+-- 11: the edition; 12: non-zero padding, or bytes after the end, A the card's right length
+abbrev pub editionAsk : List ℕ → Ask
+editionAsk bytes = plain 11 (eqb (headField bytes 0) 1) (headField bytes 0) (headField bytes 0 ≡ 1)
+
+abbrev pub endAsk : List ℕ → Ask
+endAsk bytes = plain 12 (endsRight bytes) (rightLength bytes) (endsRight bytes ≡ true)
+
 -- The reader: a card, and three lent buffers, for lengths, inbound and codes.
+abbrev pub headCounts : Limits → List ℕ → List Ask
+headCounts L bytes = countAsks L (headField bytes 4) (headField bytes 5) (headField bytes 2) (headField bytes 3) (headField bytes 1)
+
+abbrev pub readerAsks : Limits → List ℕ → ℕ → ℕ → ℕ → List Ask
+readerAsks L bytes lengthsSize inboundSize codesSize =
+    bytesAsk 1 bytes ∷
+    editionAsk bytes ∷
+    bytesAsk 5 bytes ∷
+    (headCounts L bytes ++
+    (bytesAsk (rightLength bytes) bytes ∷
+    bufferAsk 1 (headField bytes 5) lengthsSize ∷
+    bufferAsk 2 (headField bytes 4) inboundSize ∷
+    bufferAsk 3 (headField bytes 4) codesSize ∷
+    (listAsks (cardPlan bytes .night) ++ (endAsk bytes ∷ []))))
+
 abbrev pub readerTests : Limits → List ℕ → ℕ → ℕ → ℕ → List Answer
-readerTests L bytes lengthsSize inboundSize codesSize =
-    test (leb 1 (length bytes)) (says 10 1 0) ∷
-    test (eqb (headField bytes 0) 1) (says 11 (headField bytes 0) 0) ∷
-    test (leb 5 (length bytes)) (says 10 5 0) ∷
-    (countTests L (headField bytes 4) (headField bytes 5) (headField bytes 2) (headField bytes 3) (headField bytes 1) ++
-    (test (leb (rightLength bytes) (length bytes)) (says 10 (rightLength bytes) 0) ∷
-    listTest 1 (leb (headField bytes 5) lengthsSize) ∷
-    listTest 2 (leb (headField bytes 4) inboundSize) ∷
-    listTest 3 (leb (headField bytes 4) codesSize) ∷
-    (nightTests (cardPlan bytes .night) ++
-    (test (endsRight bytes) (says 12 (rightLength bytes) 0) ∷ []))))
+readerTests L bytes lengthsSize inboundSize codesSize = answers (readerAsks L bytes lengthsSize inboundSize codesSize)
+
+-- all that the reader asks
+pub record Readable (L : Limits) (bytes : List ℕ) (lengthsSize inboundSize codesSize : ℕ) : Type 0 where
+  pub some : 1 ≤ length bytes
+  pub edition : headField bytes 0 ≡ 1
+  pub head : 5 ≤ length bytes
+  pub counts : InLimits L (headField bytes 4) (headField bytes 5) (headField bytes 2) (headField bytes 3) (headField bytes 1)
+  pub whole : rightLength bytes ≤ length bytes
+  pub lengths : headField bytes 5 ≤ lengthsSize
+  pub inbound : headField bytes 4 ≤ inboundSize
+  pub codes : headField bytes 4 ≤ codesSize
+  pub lists : Listed (cardPlan bytes .night .lengths) (cardPlan bytes .night .inbound)
+  pub ends : endsRight bytes ≡ true
 
 unfoldable pub readerVerdict : Limits → List ℕ → ℕ → ℕ → ℕ → Answer
 readerVerdict L bytes lengthsSize inboundSize codesSize = verdict (readerTests L bytes lengthsSize inboundSize codesSize) (says 0 0 0)
@@ -134,8 +179,9 @@ readerAnswer L bytes lengthsSize inboundSize codesSize =
     (readerSays v (headField bytes 1) (headField bytes 2) (headField bytes 3) (headField bytes 4) (headField bytes 5))
     (readerSays v 0 0 0 0 0)
 
--- what the reader promises
+-- what the reader promises; that it was given bytes stands with it, so that what follows from a promise needs no other premise
 pub record Reads (bytes lengths₀ inbound₀ codes₀ : List ℕ) (r : CardAnswer) (lengths₁ inbound₁ codes₁ : List ℕ) : Type 0 where
+  pub given : Bytes bytes
   pub answer : r ≡ readerAnswer limits bytes (length lengths₀) (length inbound₀) (length codes₀)
   pub lengths : lengths₁ ≡ written (readerVerdict limits bytes (length lengths₀) (length inbound₀) (length codes₀)) (cardPlan bytes .night .lengths) lengths₀
   pub inbound : inbound₁ ≡ written (readerVerdict limits bytes (length lengths₀) (length inbound₀) (length codes₀)) (cardPlan bytes .night .inbound) inbound₀

@@ -13,6 +13,15 @@ pub const STEPS: usize = 8;
 
 pub const PASSES: usize = 4608;
 
+// The counts of a call that no list sets: the sorting tracks, the room on each, and the steps of a plan or the step limit of derive.
+// A caller gives them by name, since three numbers in a row are easily exchanged.
+#[repr(C)]
+pub struct Counts {
+    pub tracks: usize,
+    pub room: usize,
+    pub steps: usize,
+}
+
 // A number, 0 where all is done, and two details, 0 where unused.
 #[repr(C)]
 pub struct Answer {

@@ -5,10 +5,15 @@ use native.Mathlib.Omega.{arith}
 use lib.ListN.{length}
 use denote.Ref.{now}
 use borrow.Author.Needs.{needs}
+use Rattle.yard.specs.Card.{Bytes}
 use Rattle.card.specs.Plans.{Short}
 use Rattle.card.proofs.Reading.{accepted-room, reads-refused, reads-accepted}
 use Rattle.card.proofs.read.Statement.{statement}
 use Rattle.card.proofs.read.Tie as tie
+
+-- the card is a slice of bytes
+given : (c : tie.After-head) → Bytes (now (c .before .before .before .before .before .args .card))
+given c i = c .before .before .before .before .shared-slice-known .given i .fits
 
 -- the head is within the limits, and the buffers have room
 room : (c : tie.Else1)
@@ -19,7 +24,7 @@ room : (c : tie.Else1)
 room c =
     let judged = c .before .before .before .before in
     let args = judged .before .before .before .before .before .before .before .before .args in
-    let accepted = accepted-room (now (args .card)) (now (args .lengths)) (now (args .inbound)) (now (args .codes)) (judged .verdict .ensures .0) (c .if1 .left) in
+    let accepted = accepted-room (now (args .card)) (now (args .lengths)) (now (args .inbound)) (now (args .codes)) (given (judged .before .before .before)) (judged .verdict .ensures .0) (c .if1 .left) in
     rw (← (judged .before .before .before .head .ensures)) at accepted
 
 copy-requires : tie.Need-copy-requires
@@ -42,7 +47,7 @@ returns : tie.Need-returns
 returns c =
     let judged = c .before .before .before .before .before in
     let args = judged .before .before .before .before .before .before .before .before .args in
-    reads-refused (now (args .card)) (now (args .lengths)) (now (args .inbound)) (now (args .codes)) (judged .verdict .ensures .0) (c .before .if1 .taken) (c .told .ensures)
+    reads-refused (now (args .card)) (now (args .lengths)) (now (args .inbound)) (now (args .codes)) (given (judged .before .before .before)) (judged .verdict .ensures .0) (c .before .if1 .taken) (c .told .ensures)
 
 returns-2 : tie.Need-returns-2
 returns-2 c =
@@ -55,7 +60,7 @@ returns-2 c =
     let args = head .before .before .before .before .before .args in
     let held = judged .verdict .ensures .1 (passed .if1 .left) in
     rw (lengths .copy .ensures, held .lengths, inbound .copy2 .ensures, held .inbound, codes .fields .ensures, head .head .ensures)
-    (reads-accepted (now (args .card)) (now (args .lengths)) (now (args .inbound)) (now (args .codes)) (judged .verdict .ensures .0) (passed .if1 .left)
+    (reads-accepted (now (args .card)) (now (args .lengths)) (now (args .inbound)) (now (args .codes)) (given (judged .before .before .before)) (judged .verdict .ensures .0) (passed .if1 .left)
     (rw (head .head .ensures) at (c .told2 .ensures)))
 
 pub read-spec : {M : Type 1} → statement M

@@ -1,15 +1,15 @@
 -- The proof of `give`: the numbers passed have become codes.
-use mathlib.Core.List.{[], append-nil, map}
+use mathlib.Core.List.{[], map}
 use mathlib.Core.Path.{_≡_, refl, _∙_}
 use Prim.Native.Nat.{_-_, _^_, _≤_, _<_}
 use native.Mathlib.Omega.{arith}
-use lib.Seq.{drop-length, take-length}
+use lib.Seq.{take-length}
 use lib.ListN.{length, getD, take, length-set}
 use lib.Pow.{pow-mono}
 use denote.Ref.{now}
 use Rattle.yard.specs.Limits.{limits}
 use Rattle.yard.specs.Codes.{codeNumber}
-use Rattle.scan.proofs.Front.{front-none, front-through}
+use Rattle.scan.proofs.Front.{front-none, front-through, front-end}
 use Rattle.scan.specs.Front.{Front}
 use Rattle.derive.proofs.Coded.{number-fits, number-code}
 use Rattle.derive.proofs.give.Statement.{statement}
@@ -56,7 +56,7 @@ returns : tie.Need-returns Inv-loop μ-loop
 returns c =
     let numbers = now (c .before .before .before .before .before .before .args .numbers) in
     let end : c .before .loop .i ≡ length numbers = omega arith in
-    c .before .loop .inv .2 .listed ∙ rw (end, take-length, drop-length, append-nil) refl
+    rw (end, take-length) at (front-end (c .before .loop .inv .2) (omega arith))
 
 pub give-spec : {M : Type 1} → statement M
 give-spec =

@@ -6,7 +6,7 @@ use native.Mathlib.Nat.{suc-ne-zero}
 use lib.Dec.{leb}
 use Rattle.yard.specs.declared.Answer.{Answer}
 use Rattle.yard.specs.Answers.{says, codeTest}
-use Rattle.yard.proofs.Demands.{codes-passed}
+use Rattle.yard.proofs.Rights.{codes-passed}
 use Rattle.yard.proofs.Verdict.{stops, goes-on, last-is}
 use Rattle.sorting.specs.Sums.{pullOf, firstAbove}
 use Rattle.plans.specs.Closed.{waitTest, fullTest}
