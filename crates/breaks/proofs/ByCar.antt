@@ -60,7 +60,8 @@ module _ (places : List ℕ) (b : ℕ) (before : List ℕ) where
   train-from t =
       record { breaks = t .breaks; fewer = t .fewer; car = t .car; stays = λ i l. t .stays i l ∙ getD-set-other before b i 0 0 (λ e. omega arith) }
 
-  pub train-next : {e r s : ℕ} {into : List ℕ} → s ≡ r + tally (turned places e) → e < length into → Train places b e before r into → Train places b (e + 1) before s (set into e s)
+  pub train-next : {e r s : ℕ} {into : List ℕ} → s ≡ r + tally (turned places e) → e < length into → Train places b e before r into
+      → Train places b (e + 1) before s (set into e s)
   train-next {e} {r} {s} {into} more m t =
       record {
         breaks = counted ∙ ap (turns places (suc b)) again;

@@ -38,10 +38,12 @@ module _ (room steps : ℕ) (derived before : List ℕ) {r : Answer} {full : ℕ
         codes = sym (ap (λ (a : Answer). written a derived before) says-so);
       }
     where
-      refused : leb steps (firstAbove room derived steps) ≡ false → says 6 (firstAbove room derived steps) (pullOf derived (firstAbove room derived steps)) ≡ settled room steps derived
+      refused : leb steps (firstAbove room derived steps) ≡ false
+          → says 6 (firstAbove room derived steps) (pullOf derived (firstAbove room derived steps)) ≡ settled room steps derived
       refused f = rw f refl
 
-  pub settles-fits : {p : ℕ} {after : List ℕ} → r ≡ says 0 steps p → steps ≤ full → p ≡ length derived + setBelow steps derived → after ≡ derived ++ drop (length derived) before → Settles room steps derived before r after
+  pub settles-fits : {p : ℕ} {after : List ℕ} → r ≡ says 0 steps p → steps ≤ full → p ≡ length derived + setBelow steps derived
+      → after ≡ derived ++ drop (length derived) before → Settles room steps derived before r after
   settles-fits {p} {after} says-so m q copied =
       record {
         answer = says-so ∙ (ap (says 0 steps) q ∙ accepted (le-leb steps (firstAbove room derived steps) (omega arith)));
@@ -67,7 +69,8 @@ module _ (n : Night) (f : Listed (n .lengths) (n .inbound)) (pos : 0 < n .tracks
       passes-codes (derivedPlan n) f (sorts .codes) (sorts .never) (stepsNeeded n) (le-refl (stepsNeeded n)) ∙
       ap (λ (k : ℕ). k + setBelow (stepsNeeded n) (derivedCodes n)) (sym (derived-length n f pos))
 
-  settled-derived : settled (n .room) (stepsNeeded n) (derivedCodes n) ≡ verdict (roomTest (derivedPlan n) ∷ []) (says 0 (stepsNeeded n) (passes (derivedPlan n) (stepsNeeded n)))
+  settled-derived : settled (n .room) (stepsNeeded n) (derivedCodes n) ≡ verdict (roomTest (derivedPlan n) ∷ [])
+      (says 0 (stepsNeeded n) (passes (derivedPlan n) (stepsNeeded n)))
   unfolding derivedPlan
   settled-derived =
       go (length (derivedCodes n) + setBelow steps (derivedCodes n)) (le-or-lt steps full) ∙
@@ -100,14 +103,16 @@ module _ (n : Night) (f : Listed (n .lengths) (n .inbound)) (pos : 0 < n .tracks
         refused : leb (stepsNeeded n) limit ≡ false → says 5 (stepsNeeded n) 0 ≡ planned n limit
         refused e = rw e refl
 
-    pub plan-settled : {derived after : List ℕ} → derived ≡ derivedCodes n → steps ≤ limit → Settles (n .room) steps derived before r after → Planned n limit before r after
+    pub plan-settled : {derived after : List ℕ} → derived ≡ derivedCodes n → steps ≤ limit → Settles (n .room) steps derived before r after
+        → Planned n limit before r after
     plan-settled {derived} {after} e m s =
         record {
           answer = s .answer ∙ (ap₂ (settled (n .room)) needed e ∙ (settled-derived ∙ passed (le-leb (stepsNeeded n) limit (omega arith))));
           codes = s .codes ∙ ap (λ (d : List ℕ). written r d before) e;
         }
       where
-        passed : leb (stepsNeeded n) limit ≡ true → verdict (roomTest (derivedPlan n) ∷ []) (says 0 (stepsNeeded n) (passes (derivedPlan n) (stepsNeeded n))) ≡ planned n limit
+        passed : leb (stepsNeeded n) limit ≡ true
+            → verdict (roomTest (derivedPlan n) ∷ []) (says 0 (stepsNeeded n) (passes (derivedPlan n) (stepsNeeded n))) ≡ planned n limit
         passed t = rw t refl
 
 -- ---- derive
@@ -151,7 +156,11 @@ module _ (n : Night) (limit : ℕ) (before : List ℕ) {given : Answer} (is : gi
   unfolding deriveAnswer own-tests done
   derive-refused h =
       let same : given ≡ deriveAnswer limits n limit (length before) = stops-all (givenTests n limit (length before)) own-tests done given is h in
-      record { answer = same; codes = sym (written-refused (deriveAnswer limits n limit (length before)) (derivedCodes n) before (λ z. h (ap (λ (a : Answer). a .number) same ∙ z))) }
+      record {
+        answer = same;
+        codes =
+            sym (written-refused (deriveAnswer limits n limit (length before)) (derivedCodes n) before (λ z. h (ap (λ (a : Answer). a .number) same ∙ z)));
+      }
 
   pub derive-planned : {r : Answer} {after : List ℕ} → given .number ≡ 0 → Planned n limit before r after → Derives n limit before r after
   unfolding deriveAnswer own-tests done

@@ -17,7 +17,8 @@ use Rattle.scan.proofs.Front.{front-item, front-fits, front-behind}
 use Rattle.breaks.specs.Numbers.{Numbers}
 
 -- the number at hand is as it came, so the table has its code
-module _ (W h : ℕ) (pos : 0 < W) {s table numbers done now : List ℕ} {r i : ℕ} (codes : Front (usableCodes W h) s r table) (below : Under (F W h) numbers) (l : i < length numbers) (held : Front done numbers i now) where
+module _ (W h : ℕ) (pos : 0 < W) {s table numbers done now : List ℕ} {r i : ℕ} (codes : Front (usableCodes W h) s r table)
+    (below : Under (F W h) numbers) (l : i < length numbers) (held : Front done numbers i now) where
   coded-below : getD now i 0 < r
   coded-below = omega (arith, below i l, front-behind held, codes .number, F-usable W h pos)
 

@@ -96,7 +96,8 @@ pub record Stood (p : Plan) (stage : ℕ) (tracks₀ places₀ : List ℕ) (r : 
   pub behindTracks : drop (length (p .night .inbound)) tracks₁ ≡ drop (length (p .night .inbound)) tracks₀
   pub behindPlaces : drop (length (p .night .inbound)) places₁ ≡ drop (length (p .night .inbound)) places₀
 
-module _ (p : Plan) (stage : ℕ) (tracks₀ places₀ : List ℕ) (r : Answer) (tracks₁ places₁ : List ℕ) (promise : Replays p stage tracks₀ places₀ r tracks₁ places₁) where
+module _ (p : Plan) (stage : ℕ) (tracks₀ places₀ : List ℕ) (r : Answer) (tracks₁ places₁ : List ℕ)
+    (promise : Replays p stage tracks₀ places₀ r tracks₁ places₁) where
   abbrev replayed : Answer
   replayed = replayAnswer limits p stage (length tracks₀) (length places₀)
 

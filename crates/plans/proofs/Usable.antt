@@ -35,7 +35,8 @@ kept-waits W h x s kept l =
     let bound = ltb (nextStep h x s) h in
     let same = eqb (nextStep h x s % W) (s % W) in
     let later = and-right free (bound && same) e in
-    kept s l (not-true (bit s x) (and-left free (bound && same) e)) (ltb-true (nextStep h x s) h (and-left bound same later)) (eqb-true (nextStep h x s % W) (s % W) (and-right bound same later)))
+    kept s l (not-true (bit s x) (and-left free (bound && same) e)) (ltb-true (nextStep h x s) h (and-left bound same later))
+    (eqb-true (nextStep h x s % W) (s % W) (and-right bound same later)))
 
 module _ (W h : ℕ) (codes : List ℕ) (pos : 0 < W) (few : h ≤ 8) (below : CodesBelow h codes) where
   code-below : (i : ℕ) → i < length codes → getD codes i 0 < 2 ^ h

@@ -36,7 +36,12 @@ fits : (c : tie.In-loop Inv-loop μ-loop) → getD (c .before .loop .numbers) (c
 fits c =
     let called = c .before .before .before .usable-codes in
     let args = entry (c .before) .args in
-    omega (arith, number-fits (args .tracks) (args .steps) (entry (c .before) .pre .0 .0) (called .ensures) (entry (c .before) .pre .2) (c .loop-test .taken) (c .before .loop .inv .2), called .kept .1 .1 .0)
+    omega (
+      arith,
+      number-fits (args .tracks) (args .steps) (entry (c .before) .pre .0 .0) (called .ensures) (entry (c .before) .pre .2)
+          (c .loop-test .taken) (c .before .loop .inv .2),
+      called .kept .1 .1 .0,
+    )
 
 loop-again : tie.Need-loop-again Inv-loop μ-loop
 loop-again c =
@@ -46,8 +51,13 @@ loop-again c =
     let held = at-loop .loop .inv in
     let i = at-loop .loop .i in
     let q = getD (at-loop .loop .numbers) i 0 in
-    let code = number-code (args .tracks) (args .steps) (entry at-loop .pre .0 .0) (called .ensures) (entry at-loop .pre .2) (c .before .loop-test .taken) (held .2) in
-    (omega arith, length-set (at-loop .loop .numbers) i (getD (called .last .1 .1 .0) q 0) ∙ held .1, rw code (front-through [] (codeNumber (args .tracks) (args .steps)) (now (args .numbers)) (omega arith) (omega arith) (held .2)))
+    let code = number-code (args .tracks) (args .steps) (entry at-loop .pre .0 .0) (called .ensures) (entry at-loop .pre .2)
+    (c .before .loop-test .taken) (held .2) in (
+      omega arith,
+      length-set (at-loop .loop .numbers) i (getD (called .last .1 .1 .0) q 0) ∙
+          held .1,
+      rw code (front-through [] (codeNumber (args .tracks) (args .steps)) (now (args .numbers)) (omega arith) (omega arith) (held .2)),
+    )
 
 same-length : tie.Need-same-length Inv-loop μ-loop
 same-length c = c .before .loop .inv .1

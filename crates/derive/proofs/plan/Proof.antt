@@ -29,14 +29,18 @@ returns c =
 give-requires : tie.Need-give-requires
 give-requires c κs =
     let called = c .before .before in
-    let entry = called .before .before .before .before .before .before .before in
-    (entry .pre .tracks, omega (arith, entry .pre .steps, c .before .if1 .left), numbers-below (night entry) (entry .pre .lists) (entry .pre .tracks .0) (called .before .before .numbers .ensures) (needed called))
+    let entry = called .before .before .before .before .before .before .before in (
+      entry .pre .tracks,
+      omega (arith, entry .pre .steps, c .before .if1 .left),
+      numbers-below (night entry) (entry .pre .lists) (entry .pre .tracks .0) (called .before .before .numbers .ensures) (needed called),
+    )
 
 part-settle-end : tie.Need-part-settle-end
 part-settle-end c =
     let called = c .before .before .before .before .before in
     let entry = called .before .before .before .before .before .before .before in
-    part-within (night entry) (entry .pre .lists) (entry .pre .tracks .0) (called .before .before .numbers .ensures) (needed called) (c .before .before .give .ensures) _
+    part-within (night entry) (entry .pre .lists) (entry .pre .tracks .0) (called .before .before .numbers .ensures) (needed called)
+    (c .before .before .give .ensures) _
 
 returns-2 : tie.Need-returns-2
 returns-2 c =

@@ -39,7 +39,8 @@ returns-2 c =
     let args = c .before .before .before .before .args in
     let codes = now (args .codes) in
     let above = firstAbove (args .room) codes (args .steps) in
-    c .answer2 .ensures ∙ sym (ap (λ (b : Bool). test b (says 6 above (pullOf codes above))) (le-leb (args .steps) above (omega (arith, c .before .before .first-above .ensures))))
+    c .answer2 .ensures ∙ sym (ap (λ (b : Bool). test b (says 6 above (pullOf codes above)))
+    (le-leb (args .steps) above (omega (arith, c .before .before .first-above .ensures))))
 
 pub full-spec : {M : Type 1} → statement M
 full-spec =
