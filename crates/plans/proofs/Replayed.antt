@@ -26,7 +26,8 @@ use Rattle.yard.proofs.EarlySearch.{early-test}
 use Rattle.yard.proofs.Rights.{codes-passed}
 use Rattle.sorting.specs.Sums.{pullOf, setBelow, firstAbove, fullestOf}
 use Rattle.pairs.specs.Pairs.{unruledAt}
-use Rattle.plans.specs.Closed.{waitTest, fullTest, soundTests, firstPair, pairTest}
+use Rattle.sorting.specs.Closed.{waitTest, fullTest}
+use Rattle.plans.specs.Closed.{soundTests, firstPair, pairTest}
 
 -- verdicts that agree behind a test agree
 pub verdict-under : (t : Answer) (us vs : List Answer) (x y : Answer) → (t .number ≡ 0 → verdict us x ≡ verdict vs y) → verdict (t ∷ us) x ≡ verdict (t ∷ vs) y

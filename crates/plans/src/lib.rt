@@ -12,7 +12,8 @@ ghost use Rattle.yard.specs.Calls.{Checks, Replays};
 ghost use Rattle.yard.specs.Demands.{Listed, CodesBelow};
 ghost use Rattle.sorting.specs.Early.{earlyFound};
 ghost use Rattle.sorting.specs.Sums.{setBelow, fullestOf};
-ghost use Rattle.plans.specs.Closed.{givenTests, earlyAnswer, waitTest, fullTest, soundTests};
+ghost use Rattle.sorting.specs.Closed.{earlyAnswer, waitTest, fullTest};
+ghost use Rattle.plans.specs.Closed.{givenTests, soundTests};
 ghost use Rattle.plans.specs.Closed.{firstPair, pairTest, Counted, placedTests, Placeable, Placed};
 
 // 2, 3 and 4: the lists of a plan.

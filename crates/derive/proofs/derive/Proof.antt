@@ -1,7 +1,7 @@
 -- The proof of `derive`: the tests 1 to 4 refuse, or else the plan answers.
 use denote.Ref.{now}
 use borrow.Author.Needs.{needs}
-use Rattle.derive.specs.Plans.{nightOf}
+use Rattle.yard.specs.Night.{nightOf}
 use Rattle.derive.proofs.Answered.{given-passed, derive-refused, derive-planned}
 use Rattle.derive.proofs.derive.Statement.{statement}
 use Rattle.derive.proofs.derive.Tie as tie

@@ -8,7 +8,7 @@ use Rattle.yard.specs.Answers.{verdict}
 use Rattle.yard.specs.declared.Answer.{Answer}
 use Rattle.yard.specs.Limits.{limits}
 use Rattle.intake.proofs.Passed.{counts-within}
-use Rattle.derive.specs.Plans.{nightOf}
+use Rattle.yard.specs.Night.{nightOf}
 use Rattle.derive.proofs.Answered.{given-counts, given-lists}
 use Rattle.derive.proofs.given.Statement.{statement}
 use Rattle.derive.proofs.given.Tie as tie

@@ -9,7 +9,7 @@ use Rattle.yard.specs.Answers.{says, codeTest}
 use Rattle.yard.proofs.Rights.{codes-passed}
 use Rattle.yard.proofs.Verdict.{stops, goes-on, last-is}
 use Rattle.sorting.specs.Sums.{pullOf, firstAbove}
-use Rattle.plans.specs.Closed.{waitTest, fullTest}
+use Rattle.sorting.specs.Closed.{waitTest, fullTest}
 use borrow.Author.Needs.{needs}
 use Rattle.plans.proofs.sound.Statement.{statement}
 use Rattle.plans.proofs.sound.Tie as tie
