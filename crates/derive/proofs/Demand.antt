@@ -10,13 +10,13 @@ use Rattle.yard.specs.Limits.{limits}
 use Rattle.yard.specs.Night.{Night, Plan}
 use Rattle.yard.specs.Replay.{yardAt, pullSize}
 use Rattle.yard.specs.Derived.{derivedCodes, derivedPlan}
-use Rattle.yard.specs.Demands.{Least, Given, HasRoom, Sorts, Sortable, OverfullStep}
+use Rattle.yard.specs.Demands.{Least, HasRoom, Sorts, Sortable, OverfullStep}
 use Rattle.yard.specs.Answers.{says, onto, FirstFails}
 use Rattle.yard.specs.Calls.{deriveAsks, deriveAnswer, DeriveGiven, Derives}
 use Rattle.yard.proofs.Fronts.{front-taken, front-left}
 use Rattle.yard.proofs.Verdict.{written-accepted, written-refused}
 use Rattle.yard.proofs.Demands.{LeastPlan, derive-accepts-exactly, derive-refuses-exactly}
-use Rattle.yard.proofs.Demands.{derive-least, derived-least, derive-limit-exactly, derive-room-exactly}
+use Rattle.yard.proofs.Demands.{derive-least, derive-limit-exactly, derive-room-exactly}
 
 -- the plan that the caller is told: the steps answered, and the first n items of the buffer
 abbrev pub told : Night → Answer → List ℕ → Plan

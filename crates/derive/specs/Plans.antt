@@ -1,17 +1,15 @@
 -- The parts of a derivation: what is asked of a night first, and what the plan then answers and writes.
-use Prim.Native.Nat.{ℕ, _+_, _≤_, _<_}
+use Prim.Native.Nat.{ℕ, _+_}
 use mathlib.Core.Path.{_≡_}
 use mathlib.Core.List.{List, [], _∷_}
-use lib.Dec.{leb}
-use lib.ListN.{length, getD, take}
+use lib.ListN.{length, take}
 use Rattle.yard.specs.declared.Answer.{Answer}
 use Rattle.yard.specs.Limits.{limits}
 use Rattle.yard.specs.Night.{Night}
 use Rattle.yard.specs.Replay.{passes}
 use Rattle.yard.specs.Derived.{stepsNeeded, derivedCodes, derivedPlan}
-use Rattle.yard.specs.Answers.{says, test, verdict, written, limitTest, roomTest}
+use Rattle.yard.specs.Answers.{says, verdict, written, limitTest, roomTest}
 use Rattle.yard.specs.Calls.{deriveTests}
-use Rattle.yard.specs.Demands.{Within, Listed}
 use Rattle.sorting.specs.Sums.{setBelow}
 use Rattle.sorting.specs.Closed.{fullTest}
 

@@ -2,14 +2,14 @@
 use yard::Answer;
 ghost use mathlib.Core.Path.{_≡_};
 ghost use mathlib.Core.List.{map};
-ghost use Prim.Native.Nat.{_+_, _≤_, _<_};
+ghost use Prim.Native.Nat.{_≤_, _<_};
 ghost use lib.ListN.{length};
 ghost use Rattle.yard.specs.Codes.{F, codeNumber};
 ghost use Rattle.yard.specs.Limits.{limits};
 ghost use Rattle.yard.specs.Answers.{says, verdict};
 ghost use Rattle.yard.specs.Night.{nightOf};
 ghost use Rattle.yard.specs.Calls.{DeriveGiven, Derives};
-ghost use Rattle.yard.specs.Demands.{Within, Listed};
+ghost use Rattle.yard.specs.Demands.{Within};
 ghost use Rattle.scan.specs.Front.{Under};
 ghost use Rattle.derive.specs.Plans.{openTests, Settles, Planned};
 

@@ -1,16 +1,15 @@
 -- Laws of the rule on neighbouring pairs, train by train.
-use mathlib.Core.Path.{_≡_, refl, sym, ap, ap₂, _∙_}
+use mathlib.Core.Path.{_≡_, refl, sym, ap, _∙_}
 use mathlib.Core.Logic.{⊎-elim}
 use mathlib.Core.Bool.{Bool, true, false, not, cond, _&&_}
 use mathlib.Core.List.{List}
 use Prim.Native.Nat.{ℕ, zero, suc, _+_, _-_, _≤_, _<_}
 use native.Mathlib.Nat.{eq-or-lt-of-le}
 use native.Mathlib.Omega.{arith}
-use lib.Dec.{eqb}
 use lib.ListN.{length, getD, take}
 use borrow.Author.Tests.{eq-eqb, ne-eqb}
 use Rattle.yard.specs.Words.{tally, total, first, upFrom}
-use Rattle.yard.specs.Night.{sum, trainOf, pair}
+use Rattle.yard.specs.Night.{sum, trainOf}
 use Rattle.yard.specs.Answers.{ruled}
 use Rattle.yard.proofs.First.{first-from, first-none, first-hit, first-found, first-fails}
 use Rattle.yard.proofs.Codes.{total-last}

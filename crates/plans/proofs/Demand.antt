@@ -13,7 +13,7 @@ use Rattle.yard.specs.Night.{Plan, cars, itemOf}
 use Rattle.yard.specs.Replay.{yardAt, pullSize, fullestPull, trackOf, placeOf}
 use Rattle.yard.specs.Demands.{Within}
 use Rattle.yard.specs.Answers.{says, onto, FirstFails}
-use Rattle.yard.specs.Calls.{checkAsks, checkAnswer, Checks, GoodPlan, replayAsks, replayAnswer, Replays, Replayable, carTracks, carPlaces}
+use Rattle.yard.specs.Calls.{checkAsks, Checks, GoodPlan, replayAsks, replayAnswer, Replays, Replayable, carTracks, carPlaces}
 use Rattle.yard.proofs.Fronts.{front-taken, front-left}
 use Rattle.yard.proofs.Verdict.{written-accepted, written-refused}
 use Rattle.yard.proofs.Lists.{count-upFrom-in, upFrom-bounds, length-upFrom}

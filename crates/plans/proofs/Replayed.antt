@@ -1,23 +1,23 @@
 -- The tests worked out from the lists say what the tests of the replay say, each where those before it are passed.
-use mathlib.Core.Path.{_≡_, refl, sym, ap, ap₂, _∙_, subst}
-use mathlib.Core.Logic.{_⊎_, ⊎-elim}
-use mathlib.Core.Bool.{Bool, true, false, cond, not, _&&_}
-use mathlib.Core.List.{List, [], _∷_, _++_, map}
-use Prim.Native.Nat.{ℕ, zero, suc, _+_, _-_, _^_, max, _≤_, _<_}
+use mathlib.Core.Path.{_≡_, refl, sym, ap, ap₂, _∙_}
+use mathlib.Core.Logic.{⊎-elim}
+use mathlib.Core.Bool.{Bool, not, _&&_}
+use mathlib.Core.List.{List, [], _∷_, map}
+use Prim.Native.Nat.{ℕ, zero, suc, _+_, _-_, max, _≤_, _<_}
 use native.Mathlib.Nat.{le-refl, eq-or-lt-of-le}
 use native.Mathlib.Omega.{arith}
-use lib.Dec.{leb, ltb, eqb}
+use lib.Dec.{leb, ltb}
 use lib.ListN.{length}
 use borrow.Author.Tests.{le-leb}
 use Rattle.yard.specs.declared.Answer.{Answer}
 use Rattle.yard.specs.Words.{place, first, most, count, upFrom}
-use Rattle.yard.specs.Night.{Night, Plan, cars, itemOf, trainOf, pair, broken}
-use Rattle.yard.specs.Replay.{passes, pullSize, fullestPull, firstOverfull, inOrder, codeOf}
+use Rattle.yard.specs.Night.{Plan, cars, pair}
+use Rattle.yard.specs.Replay.{passes, pullSize, fullestPull, firstOverfull, codeOf}
 use Rattle.yard.specs.Answers.{says, test, verdict, roomTest, codeTest, earlyTest, orderTest, ruled, unruled}
-use Rattle.yard.specs.Demands.{Within, Listed, CodesFormed, CodesBelow, NeverEarly}
+use Rattle.yard.specs.Demands.{Within, Listed, CodesFormed, NeverEarly}
 use Rattle.yard.proofs.First.{first-le, first-same}
 use Rattle.yard.proofs.Lists.{count-head, count-tail, upFrom-bounds}
-use Rattle.yard.proofs.Verdict.{Passed, verdict-after, verdict-refused}
+use Rattle.yard.proofs.Verdict.{verdict-after, verdict-refused}
 use Rattle.yard.proofs.Plans.{early-passed, range-once}
 use Rattle.yard.proofs.Building.{order-ruled}
 use Rattle.yard.proofs.DerivedPlan.{by-car}

@@ -1,20 +1,19 @@
 -- Where the table says of every code that it needs no more tracks than there are, the search finds no early pull.
-use mathlib.Core.Path.{_≡_, refl, sym, ap, _∙_, subst}
+use mathlib.Core.Path.{_≡_, ap, _∙_, subst}
 use mathlib.Core.Bool.{Bool, true, false, not, _&&_}
 use mathlib.Core.List.{List}
 use Prim.Native.Nat.{ℕ, suc, _+_, _-_, _%_, _^_, _≤_, _<_}
 use native.Mathlib.Nat.{lt-of-lt-of-le}
 use native.Mathlib.Omega.{arith}
-use lib.Dec.{leb, ltb, eqb}
+use lib.Dec.{ltb, eqb}
 use lib.ListN.{length, getD}
 use lib.Pow.{pow-mono}
-use borrow.Author.Tests.{leb-true, le-leb, lt-leb, ltb-true, ltb-false, eqb-true}
-use Rattle.yard.specs.Words.{first}
+use borrow.Author.Tests.{le-leb, lt-leb, ltb-true, ltb-false, eqb-true}
 use Rattle.yard.specs.Night.{itemOf}
 use Rattle.yard.specs.Codes.{usable, fewestTracks}
 use Rattle.yard.specs.Replay.{bit, nextStep}
 use Rattle.yard.specs.Answers.{says, test}
-use Rattle.yard.specs.Demands.{Within, CodesBelow}
+use Rattle.yard.specs.Demands.{CodesBelow}
 use Rattle.yard.proofs.Bools.{and-left, and-right, not-so, not-true}
 use Rattle.yard.proofs.First.{first-none, first-fails}
 use Rattle.yard.proofs.Tests.{item-at}

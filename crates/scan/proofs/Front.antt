@@ -6,8 +6,7 @@ use native.Mathlib.Nat.{add-zero}
 use native.Mathlib.Numerals.{add-one}
 use native.Mathlib.Omega.{arith}
 use lib.ListN.{length, getD, take, drop, set, List·getD-append, length-append, take-append-drop, drop-of-length-le}
-use lib.Seq.{take-suc, drop-cons, set-at, getD-append-add, getD-drop, drop-drop, length-take-le}
-use Rattle.yard.specs.Answers.{onto}
+use lib.Seq.{take-suc, drop-cons, set-at, getD-drop, drop-drop, length-take-le}
 use Rattle.yard.proofs.Fronts.{front-taken, front-left, front-within}
 use Rattle.scan.specs.Front.{Front}
 

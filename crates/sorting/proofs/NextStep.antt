@@ -1,9 +1,8 @@
 -- Laws of the next step of a code, and of the search over steps, then cars.
 use mathlib.Core.Path.{_≡_, refl, sym, ap, ap₂, _∙_}
-use mathlib.Core.Logic.{_⊎_, ⊎-elim}
+use mathlib.Core.Logic.{⊎-elim}
 use mathlib.Core.Bool.{Bool, true, false, cond, not, _&&_, and-false}
-use mathlib.Core.List.{List}
-use Prim.Native.Nat.{ℕ, zero, suc, _+_, _-_, _*_, _/_, _%_, _^_, min, _≤_, _<_}
+use Prim.Native.Nat.{ℕ, zero, suc, _+_, _/_, _%_, _^_, min, _≤_, _<_}
 use native.Mathlib.Nat.{mod-lt, pow-suc, div-div-eq-div-mul, eq-or-lt-of-le}
 use native.Mathlib.Omega.{arith}
 use lib.Count.{trailingZeros, under}

@@ -1,17 +1,17 @@
 -- Laws of lists by car that a loop fills car by car, in any order.
-use mathlib.Core.Path.{_≡_, sym, ap, ap₂, _∙_, subst}
+use mathlib.Core.Path.{_≡_, sym, ap, _∙_, subst}
 use mathlib.Core.Logic.{_⊎_, inl, inr, ⊎-elim}
-use mathlib.Core.List.{List, [], _∷_, _++_, map, append-assoc, append-nil, map-append}
+use mathlib.Core.List.{List, _++_, map}
 use Prim.Native.Nat.{ℕ, suc, _+_, _-_, _≤_, _<_}
 use native.Mathlib.Numerals.{add-one}
 use native.Mathlib.Omega.{arith}
-use lib.ListN.{length, getD, take, drop, set, length-append, length-drop, length-map, length-set, take-append-drop, drop-of-length-le, List·getD-append}
-use lib.Seq.{take-suc, take-all, drop-cons, set-at, ext-getD, getD-append-add, getD-drop, getD-set-same, getD-set-other, length-take-le}
+use lib.ListN.{length, getD, take, drop, set, length-append, length-drop, length-set, take-append-drop, List·getD-append}
+use lib.Seq.{drop-cons, ext-getD, getD-append-add, getD-drop, getD-set-same, getD-set-other, length-take-le}
 use Rattle.yard.specs.Words.{count, place}
 use Rattle.yard.specs.Night.{cars}
 use Rattle.yard.specs.Demands.{Within, EachOnce}
 use Rattle.yard.proofs.Numbers.{le-or-lt, below-suc, compared}
-use Rattle.yard.proofs.Lists.{count-upFrom-in, upFrom-bounds, count-append}
+use Rattle.yard.proofs.Lists.{count-upFrom-in, upFrom-bounds}
 use Rattle.yard.proofs.Order.{place-right, place-here, place-among}
 use Rattle.yard.proofs.Formed.{count-at, place-holds}
 use Rattle.yard.proofs.DerivedPlan.{map-item, length-by-car}

@@ -1,6 +1,6 @@
 -- The proof of `unruled_in`: what is left of the search finds what the whole search finds.
 use mathlib.Core.Path.{_≡_, refl, sym, _∙_}
-use Prim.Native.Nat.{ℕ, _+_, _-_, _≤_}
+use Prim.Native.Nat.{_+_, _-_, _≤_}
 use denote.Ref.{now}
 use native.Mathlib.Omega.{arith}
 use Rattle.yard.specs.Words.{first}

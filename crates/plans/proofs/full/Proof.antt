@@ -1,11 +1,10 @@
 -- The proof of `full`: the step that the search found, or none.
-use mathlib.Core.Path.{_≡_, refl, sym, ap, ap₂, _∙_}
+use mathlib.Core.Path.{sym, ap, ap₂, _∙_}
 use mathlib.Core.Bool.{Bool}
 use Prim.Native.Nat.{ℕ}
 use denote.Ref.{now}
 use native.Mathlib.Omega.{arith}
 use borrow.Author.Tests.{le-leb, lt-leb}
-use Rattle.yard.specs.declared.Answer.{Answer}
 use Rattle.yard.specs.Answers.{says, test}
 use Rattle.sorting.specs.Sums.{pullOf, firstAbove}
 use borrow.Author.Needs.{needs}

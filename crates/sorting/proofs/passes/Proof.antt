@@ -4,7 +4,7 @@ use mathlib.Core.Path.{_≡_, ap}
 use Prim.Native.Nat.{_+_, _-_, _*_, _%_, _^_, _≤_}
 use denote.Ref.{now}
 use native.Mathlib.Omega.{arith}
-use lib.ListN.{length, getD, drop}
+use lib.ListN.{length, drop}
 use Rattle.sorting.specs.Sums.{setBelow}
 use Rattle.scan.proofs.Running.{total-next, total-end}
 use Rattle.sorting.proofs.passes.Statement.{statement}

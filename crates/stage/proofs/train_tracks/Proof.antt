@@ -1,5 +1,5 @@
 -- The proof of `train_tracks`: the cars passed have their tracks, and the rest stays.
-use mathlib.Core.Path.{_≡_, refl, ap, _∙_}
+use mathlib.Core.Path.{_≡_, refl, _∙_}
 use mathlib.Core.List.{[], map}
 use Prim.Native.Nat.{ℕ, _-_, _≤_}
 use denote.Ref.{now}

@@ -1,10 +1,9 @@
 -- The proof of `first_early`: what is left of the search over steps, then cars, finds what the whole finds.
 use mathlib.Core.Path.{_≡_, refl, sym, _∙_}
-use Prim.Native.Nat.{_-_, _≤_, _<_}
+use Prim.Native.Nat.{_-_, _≤_}
 use denote.Ref.{now}
 use native.Mathlib.Omega.{arith}
 use lib.ListN.{length}
-use borrow.Author.Needs.{needs}
 use Rattle.sorting.specs.declared.early.Early.the-variants.{Never}
 use Rattle.sorting.proofs.EarlyLeft.{StepsLeft, CarsLeft, steps-start, cars-start, cars-goes, steps-goes, steps-ends, found}
 use Rattle.sorting.proofs.early.first_early.Statement.{statement}
