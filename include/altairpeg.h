@@ -108,7 +108,15 @@ typedef struct altairpeg_price_answer {
     double price;
 } altairpeg_price_answer;
 
-/* Derives the plan of a night with the fewest steps.
+/* The counts of a call that no list sets, by name: the sorting tracks, the room on each, and the steps of a plan or, for
+ * derive, the step limit. In C: (altairpeg_counts){.tracks = 2, .room = 3, .steps = 8}. */
+typedef struct altairpeg_counts {
+    size_t tracks;
+    size_t room;
+    size_t steps;
+} altairpeg_counts;
+
+/* Derives the plan of a night with the fewest steps, at most counts.steps.
  * Tests: 1 (cars, trains, tracks, room, limit), 2, 3, 4 (codes), 5, 6.
  * Writes: the code of each car to the first n items of codes.
  * Answers: A the steps, B the passes of the whole plan.
@@ -116,7 +124,7 @@ typedef struct altairpeg_price_answer {
 altairpeg_answer altairpeg_derive(
     const uint16_t *lengths, size_t lengths_len,
     const uint16_t *inbound, size_t inbound_len,
-    size_t tracks, size_t room, size_t limit,
+    altairpeg_counts counts,
     uint16_t *codes, size_t codes_len);
 
 /* Checks a plan offered by anyone, by its replay.
@@ -127,7 +135,7 @@ altairpeg_answer altairpeg_check(
     const uint16_t *lengths, size_t lengths_len,
     const uint16_t *inbound, size_t inbound_len,
     const uint16_t *codes, size_t codes_len,
-    size_t tracks, size_t room, size_t steps);
+    altairpeg_counts counts);
 
 /* Replays a plan to a stage: stage 0 is the yard after the first roll-in, stage s after s steps.
  * Tests, always of the whole plan: 1 (cars, trains, tracks, room, steps, stage), 2, 3, 4 (codes, tracks, places), 7, 8, 6.
@@ -138,7 +146,7 @@ altairpeg_answer altairpeg_replay(
     const uint16_t *lengths, size_t lengths_len,
     const uint16_t *inbound, size_t inbound_len,
     const uint16_t *codes, size_t codes_len,
-    size_t tracks, size_t room, size_t steps, size_t stage,
+    altairpeg_counts counts, size_t stage,
     uint16_t *on, size_t on_len,
     uint16_t *at, size_t at_len);
 
@@ -161,7 +169,7 @@ altairpeg_answer altairpeg_write(
     const uint16_t *lengths, size_t lengths_len,
     const uint16_t *inbound, size_t inbound_len,
     const uint16_t *codes, size_t codes_len,
-    size_t tracks, size_t room, size_t steps,
+    altairpeg_counts counts,
     uint8_t *card, size_t card_len);
 
 /* Prices a night: steps times pull plus passes times push, exactly.

@@ -27,12 +27,13 @@ static uint16_t lengths[NIGHTS][64], inbound[NIGHTS][CARS], codes[CARS];
 static double now(void) { struct timespec t; clock_gettime(CLOCK_PROCESS_CPUTIME_ID, &t); return t.tv_sec + t.tv_nsec / 1e9; }
 int main(void) {
     if (fread(lengths, sizeof lengths, 1, stdin) != 1 || fread(inbound, sizeof inbound, 1, stdin) != 1) return 1;
+    altairpeg_counts counts = {.tracks = 8, .room = 512, .steps = 8};
     double quickest = 1e9;
     for (int round = 0; round < ROUNDS; round++) {
         double start = now();
         for (int repeat = 0; repeat < REPEATS; repeat++)
             for (int night = 0; night < NIGHTS; night++)
-                if (altairpeg_derive(lengths[night], 64, inbound[night], CARS, 8, 512, 8, codes, CARS).number) return 1;
+                if (altairpeg_derive(lengths[night], 64, inbound[night], CARS, counts, codes, CARS).number) return 1;
         double taken = now() - start;
         if (taken < quickest) quickest = taken;
     }

@@ -22,19 +22,27 @@ static const uint16_t lengths[] = {6}, inbound[] = {3, 6, 1, 5, 2, 4}, derived[]
 static const uint8_t bytes[] = {
     0x12, 0x20, 0x0C, 0x06, 0x02, 0x03, 0x00, 0x60, 0x30, 0x02, 0x02, 0x80, 0x40, 0x20, 0x2D, 0x80};
 
+static altairpeg_counts counts(size_t tracks, size_t room, size_t steps) {
+    altairpeg_counts given;
+    given.tracks = tracks;
+    given.room = room;
+    given.steps = steps;
+    return given;
+}
+
 static void plans(void) {
     uint16_t codes[7] = {9, 9, 9, 9, 9, 9, 9}, on[6], at[6];
-    altairpeg_answer r = altairpeg_derive(lengths, 1, inbound, 6, 2, 3, 8, codes, 7);
+    altairpeg_answer r = altairpeg_derive(lengths, 1, inbound, 6, counts(2, 3, 8), codes, 7);
     expect(same(r, ALTAIRPEG_DONE, 2, 11), "derive");
     expect(memcmp(codes, derived, sizeof derived) == 0 && codes[6] == 9, "codes, and no more");
-    r = altairpeg_derive(lengths, 1, inbound, 6, 2, 2, 8, codes, 7);
+    r = altairpeg_derive(lengths, 1, inbound, 6, counts(2, 2, 8), codes, 7);
     expect(same(r, ALTAIRPEG_TRACK_OVERFILLED, 0, 3), "room");
-    r = altairpeg_check(lengths, 1, inbound, 6, derived, 6, 2, 3, 2);
+    r = altairpeg_check(lengths, 1, inbound, 6, derived, 6, counts(2, 3, 2));
     expect(same(r, ALTAIRPEG_DONE, 11, 3), "check");
-    r = altairpeg_replay(lengths, 1, inbound, 6, derived, 6, 2, 3, 2, 0, on, 6, at, 6);
+    r = altairpeg_replay(lengths, 1, inbound, 6, derived, 6, counts(2, 3, 2), 0, on, 6, at, 6);
     expect(same(r, ALTAIRPEG_DONE, 6, 0), "replay");
     expect(on[5] == 0 && at[5] == 1 && on[1] == 2 && at[1] == 1, "the yard at stage 0");
-    r = altairpeg_derive(NULL, 0, NULL, 0, 2, 3, 8, NULL, 0);
+    r = altairpeg_derive(NULL, 0, NULL, 0, counts(2, 3, 8), NULL, 0);
     expect(same(r, ALTAIRPEG_COUNT_OUT_OF_RANGE, 1, 0), "no lists");
 }
 
@@ -53,7 +61,7 @@ static void cards(void) {
     expect(card_lengths[0] == 6 && memcmp(card_inbound, inbound, sizeof inbound) == 0, "night of the card");
     expect(memcmp(card_codes, derived, sizeof derived) == 0, "codes of the card");
     altairpeg_answer w = altairpeg_write(
-        card_lengths, r.trains, card_inbound, r.cars, card_codes, r.cars, r.tracks, r.room, r.steps, card, sizeof card);
+        card_lengths, r.trains, card_inbound, r.cars, card_codes, r.cars, counts(r.tracks, r.room, r.steps), card, sizeof card);
     expect(same(w, ALTAIRPEG_DONE, sizeof bytes, 0), "write");
     expect(memcmp(card, bytes, sizeof bytes) == 0, "bytes of the card");
     r = read_first(15);

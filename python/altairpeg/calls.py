@@ -8,7 +8,7 @@ from typing import Any, SupportsFloat, SupportsIndex
 
 from . import lists
 from .errors import FileError, InputError, shown
-from .library import CARD_BYTES, CARS, TRAINS, Timings, library
+from .library import CARD_BYTES, CARS, TRAINS, Counts, Timings, library
 from .nights import Checked, Derived, Night, Plan, Stage
 from .places import place
 from .refusal import Refusal
@@ -25,7 +25,8 @@ def derive(night: Night, limit: SupportsIndex = 8) -> Derived:
     lengths, inbound, tracks, room = _night(night)
     cars = len(inbound)
     codes = lists.zeros(cars)
-    answer = library().altairpeg_derive(lengths, len(lengths), inbound, cars, tracks, room, lists.count("limit", limit), codes, cars)
+    counts = Counts(tracks, room, lists.count("limit", limit))
+    answer = library().altairpeg_derive(lengths, len(lengths), inbound, cars, counts, codes, cars)
     if answer.number:
         raise _refusal(answer, limit=limit, **night._asdict())
     derived = Derived(answer.a, answer.b, codes.tolist())
@@ -129,7 +130,8 @@ def _plan(plan: Plan) -> tuple[Any, ...]:
         raise InputError(f"plan is {shown(plan)}, not a Plan")
     lengths, inbound, tracks, room = _night(plan.night)
     codes = lists.numbers("codes", plan.codes, negative=_CODE_TOO_LARGE_FOR_ANY_STEPS)
-    return lengths, len(lengths), inbound, len(inbound), codes, len(codes), tracks, room, lists.count("steps", plan.steps)
+    counts = Counts(tracks, room, lists.count("steps", plan.steps))
+    return lengths, len(lengths), inbound, len(inbound), codes, len(codes), counts
 
 
 def _refusal(answer: Any, **given: Any) -> Refusal:

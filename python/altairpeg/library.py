@@ -26,6 +26,12 @@ class Answer(ctypes.Structure):
     _fields_ = [("number", c_size_t), ("a", c_size_t), ("b", c_size_t)]
 
 
+class Counts(ctypes.Structure):
+    """The counts that no list sets; steps is the step limit for derive."""
+
+    _fields_ = [("tracks", c_size_t), ("room", c_size_t), ("steps", c_size_t)]
+
+
 class CardAnswer(ctypes.Structure):
     """What the card reader tells."""
 
@@ -54,10 +60,10 @@ class Items:
 
 LIST: list[Any] = [Items, c_size_t]
 NIGHT = LIST + LIST
-PLAN = NIGHT + LIST + [c_size_t] * 3
+PLAN = NIGHT + LIST + [Counts]
 
 CALLS: dict[str, tuple[list[Any], Any]] = {
-    "altairpeg_derive": (NIGHT + [c_size_t] * 3 + LIST, Answer),
+    "altairpeg_derive": (NIGHT + [Counts] + LIST, Answer),
     "altairpeg_check": (PLAN, Answer),
     "altairpeg_replay": (PLAN + [c_size_t] + LIST + LIST, Answer),
     "altairpeg_read": (LIST * 4, CardAnswer),

@@ -37,6 +37,22 @@ pub struct Plan<'a> {
     pub codes: &'a [u16],
 }
 
+/// The counts of a call that no list sets: the sorting tracks, the room on each, and the steps of a
+/// plan or the step limit of derive.
+#[repr(C)]
+#[derive(Clone, Copy)]
+struct Counts {
+    tracks: usize,
+    room: usize,
+    steps: usize,
+}
+
+impl Counts {
+    fn of(night: Night, steps: usize) -> Counts {
+        Counts { tracks: night.tracks, room: night.room, steps }
+    }
+}
+
 /// A number and its two details.
 #[repr(C)]
 #[derive(Clone, Copy, Debug, PartialEq, Eq)]
@@ -89,7 +105,7 @@ pub struct PriceAnswer {
 
 /// The exports as the archive has them; the build script asks the archive for each name found here.
 mod raw {
-    use super::{Answer, CardAnswer, PriceAnswer, Timings};
+    use super::{Answer, CardAnswer, Counts, PriceAnswer, Timings};
 
     #[link(name = "altairpeg", kind = "static")]
     extern "C" {
@@ -98,9 +114,7 @@ mod raw {
             lengths_len: usize,
             inbound: *const u16,
             inbound_len: usize,
-            tracks: usize,
-            room: usize,
-            limit: usize,
+            counts: Counts,
             codes: *mut u16,
             codes_len: usize,
         ) -> Answer;
@@ -111,9 +125,7 @@ mod raw {
             inbound_len: usize,
             codes: *const u16,
             codes_len: usize,
-            tracks: usize,
-            room: usize,
-            steps: usize,
+            counts: Counts,
         ) -> Answer;
         pub fn altairpeg_replay(
             lengths: *const u16,
@@ -122,9 +134,7 @@ mod raw {
             inbound_len: usize,
             codes: *const u16,
             codes_len: usize,
-            tracks: usize,
-            room: usize,
-            steps: usize,
+            counts: Counts,
             stage: usize,
             on: *mut u16,
             on_len: usize,
@@ -148,9 +158,7 @@ mod raw {
             inbound_len: usize,
             codes: *const u16,
             codes_len: usize,
-            tracks: usize,
-            room: usize,
-            steps: usize,
+            counts: Counts,
             card: *mut u8,
             card_len: usize,
         ) -> Answer;
@@ -180,7 +188,7 @@ macro_rules! call {
 pub fn derive(night: Night, limit: usize, codes: &mut [u16]) -> Answer {
     call!(altairpeg_derive
         reads [night.lengths, night.inbound]
-        counts [night.tracks, night.room, limit]
+        counts [Counts::of(night, limit)]
         writes [codes])
 }
 
@@ -189,7 +197,7 @@ pub fn derive(night: Night, limit: usize, codes: &mut [u16]) -> Answer {
 pub fn check(plan: Plan) -> Answer {
     call!(altairpeg_check
         reads [plan.night.lengths, plan.night.inbound, plan.codes]
-        counts [plan.night.tracks, plan.night.room, plan.steps]
+        counts [Counts::of(plan.night, plan.steps)]
         writes [])
 }
 
@@ -198,7 +206,7 @@ pub fn check(plan: Plan) -> Answer {
 pub fn replay(plan: Plan, stage: usize, on: &mut [u16], at: &mut [u16]) -> Answer {
     call!(altairpeg_replay
         reads [plan.night.lengths, plan.night.inbound, plan.codes]
-        counts [plan.night.tracks, plan.night.room, plan.steps, stage]
+        counts [Counts::of(plan.night, plan.steps), stage]
         writes [on, at])
 }
 
@@ -218,7 +226,7 @@ pub fn read(
 pub fn write(plan: Plan, card: &mut [u8]) -> Answer {
     call!(altairpeg_write
         reads [plan.night.lengths, plan.night.inbound, plan.codes]
-        counts [plan.night.tracks, plan.night.room, plan.steps]
+        counts [Counts::of(plan.night, plan.steps)]
         writes [card])
 }
 
