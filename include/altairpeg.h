@@ -1,6 +1,7 @@
 /* Altairpeg: multistage sorting plans derived, checked, replayed, priced and stored on night cards.
  *
- * Link with target/staticlib/libaltairpeg.a, which `rt staticlib altairpeg` makes.
+ * Link with libaltairpeg.a, which `rt staticlib altairpeg` writes to target/staticlib/, or with what `make install` puts in
+ * place, archive or shared object.
  *
  * A night: the lengths of the outbound trains, the inbound order of the cars, the sorting tracks and the room on each.
  * A plan: a night, its steps h, and one code for each car, in car order, a number below 2^h: bit k set means that the
@@ -13,15 +14,16 @@
  *
  * What a call answers: a number, 0 where all is done, and two details A and B, 0 where unused.
  *
+ * [table, made from words/refusals.tsv by words/make.py]
  *   No.  Given when                                           A, B
  *    0   done                                                 as the call says
  *    1   a count out of its range                             A: 1 cars, 2 trains, 3 tracks, 4 room, 5 steps or limit,
  *                                                                6 stage above h, 7 passes
  *    2   a train of length 0, or lengths not adding up to n   A: first such train, or 0 for the sum
  *    3   inbound list not each car once                       A: first place with a number out of range or met before
- *    4   a code list whose length isn't n, or a buffer to     A: 1 lengths, 2 inbound, 3 codes, 4 tracks, 5 places,
+ *    4   a list whose length isn't its count, or a buffer to  A: 1 lengths, 2 inbound, 3 codes, 4 tracks, 5 places,
  *        be written too short                                    6 card
- *    5   derive: fewest steps above the limit                 A: fewest steps (may exceed 8)
+ *    5   fewest steps above the limit                         A: fewest steps (may exceed 8)
  *    6   a track overfilled                                   A: first such step, B: its cars
  *    7   a code not below 2^h                                 A: first such car
  *    8   a car pulled early                                   A: lowest car of the first such step, B: that step
@@ -30,6 +32,7 @@
  *   11   card edition not 1                                   A: edition
  *   12   non-zero padding, or bytes after the end             A: the card's right length
  *   13   a timing not allowed                                 A: 1 pull, 2 push
+ * [end of table]
  *
  * Within 1, 4 and 13 the lowest A comes first; within 2 a length of 0 comes before the sum.
  */
@@ -53,7 +56,7 @@ extern "C" {
 #define ALTAIRPEG_PASSES 4608
 #define ALTAIRPEG_CARD_BYTES 1237
 
-/* The numbers of the table above. */
+/* The numbers of the table above [numbers, made from words/refusals.tsv by words/make.py]. */
 enum altairpeg_number {
     ALTAIRPEG_DONE = 0,
     ALTAIRPEG_COUNT_OUT_OF_RANGE = 1,
@@ -70,6 +73,7 @@ enum altairpeg_number {
     ALTAIRPEG_CARD_END_WRONG = 12,
     ALTAIRPEG_TIMING_NOT_ALLOWED = 13
 };
+/* [end of numbers] */
 
 /* A number and its two details. */
 typedef struct altairpeg_answer {

@@ -4,61 +4,57 @@
 //! [`Refusal`] with the paper's number, details and words where a call refuses.
 //!
 //! ```
-//! use altairpeg::{check, derive, Night, Plan};
+//! use altairpeg::{check, derive, Night};
 //!
 //! let night = Night { lengths: &[6], inbound: &[3, 6, 1, 5, 2, 4], tracks: 2, room: 3 };
 //! let derived = derive(night, 8)?;
 //! assert_eq!((derived.steps, derived.passes), (2, 11));
 //! assert_eq!(derived.codes, [0, 0, 1, 1, 2, 3]);
 //!
-//! let plan = Plan { night, steps: derived.steps, codes: &derived.codes };
-//! assert_eq!(check(plan)?.fullest_pull, 3);
+//! assert_eq!(check(derived.plan(night))?.fullest_pull, 3);
 //! # Ok::<(), altairpeg::Refusal>(())
 //! ```
 
-mod ffi;
+#![warn(missing_docs)]
+
 mod refusal;
+#[rustfmt::skip]
+mod words;
 
-use ffi::Answer;
+use altairpeg_sys::Answer;
+#[doc(inline)]
+pub use altairpeg_sys::{Night, Plan, Timings, CARD_BYTES, CARS, TRAINS};
 pub use refusal::Refusal;
-
-/// The most cars of a night.
-pub const CARS: usize = 512;
-/// The most trains of a night.
-pub const TRAINS: usize = 64;
-/// The bytes of the longest card.
-pub const CARD_BYTES: usize = 1237;
-
-/// A night: the lengths of the outbound trains, the inbound order of the cars, the sorting tracks
-/// and the room on each.
-#[derive(Clone, Copy, Debug, PartialEq, Eq)]
-pub struct Night<'a> {
-    pub lengths: &'a [u16],
-    pub inbound: &'a [u16],
-    pub tracks: usize,
-    pub room: usize,
-}
-
-/// A plan: a night, its steps, and one code for each car, in car order.
-#[derive(Clone, Copy, Debug, PartialEq, Eq)]
-pub struct Plan<'a> {
-    pub night: Night<'a>,
-    pub steps: usize,
-    pub codes: &'a [u16],
-}
+pub use words::Kind;
 
 /// A derived plan: its steps, the hump passes of the whole plan, and the code of each car.
 #[derive(Clone, Debug, PartialEq, Eq)]
 pub struct Derived {
+    /// The fewest steps.
     pub steps: usize,
+    /// The hump passes of the whole plan.
     pub passes: usize,
+    /// The code of each car, in car order.
     pub codes: Vec<u16>,
+}
+
+impl Derived {
+    /// The plan, with the night of which it was derived.
+    pub fn plan<'a>(&'a self, night: Night<'a>) -> Plan<'a> {
+        Plan {
+            night,
+            steps: self.steps,
+            codes: &self.codes,
+        }
+    }
 }
 
 /// What check says of an accepted plan: its hump passes, and the cars of its fullest pull.
 #[derive(Clone, Copy, Debug, PartialEq, Eq)]
 pub struct Checked {
+    /// The hump passes of the whole plan.
     pub passes: usize,
+    /// The cars of the fullest pull, 0 where the plan has no steps.
     pub fullest_pull: usize,
 }
 
@@ -67,8 +63,11 @@ pub struct Checked {
 /// The destination of train t is track `tracks + t - 1`; the place at the front is 0.
 #[derive(Clone, Debug, PartialEq, Eq)]
 pub struct Stage {
+    /// The hump passes up to this stage.
     pub passes: usize,
+    /// Each car's track.
     pub tracks: Vec<u16>,
+    /// Each car's place on its track.
     pub places: Vec<u16>,
 }
 
@@ -98,11 +97,17 @@ impl Stage {
 /// What a night card says.
 #[derive(Clone, Debug, PartialEq, Eq)]
 pub struct Card {
+    /// The cars of each train.
     pub lengths: Vec<u16>,
+    /// The cars in the order in which they come in.
     pub inbound: Vec<u16>,
+    /// The sorting tracks.
     pub tracks: usize,
+    /// The room on each.
     pub room: usize,
+    /// The steps of the plan.
     pub steps: usize,
+    /// The code of each car, in car order.
     pub codes: Vec<u16>,
 }
 
@@ -127,14 +132,6 @@ impl Card {
     }
 }
 
-/// Seconds for a pull-out, and seconds to push one car: each 0 to 4096 and a multiple of 1/16.
-#[repr(C)]
-#[derive(Clone, Copy, Debug, PartialEq)]
-pub struct Timings {
-    pub pull: f64,
-    pub push: f64,
-}
-
 /// The answer where all is done, and else the refusal.
 fn done(answer: Answer) -> Result<Answer, Refusal> {
     let Answer { number, a, b } = answer;
@@ -144,27 +141,18 @@ fn done(answer: Answer) -> Result<Answer, Refusal> {
     }
 }
 
-// SAFETY, for every call below: each pointer comes from a slice and goes with its length, the
-// slices written are lent mutably and so overlap no other, and the library keeps no pointer.
+/// A list to be written, with an item for each car of the night; a night of too many is refused
+/// before anything is written, whatever its length.
+fn items(night: Night) -> Vec<u16> {
+    vec![0; night.inbound.len().min(CARS)]
+}
 
 /// Derives the plan with the fewest steps; refuses 1, 2, 3, 5 or 6.
 ///
 /// 5 says that no plan that builds the trains keeps to the limit; 6 speaks of the derived plan alone.
 pub fn derive(night: Night, limit: usize) -> Result<Derived, Refusal> {
-    let mut codes = vec![0; night.inbound.len()];
-    let answer = done(unsafe {
-        ffi::altairpeg_derive(
-            night.lengths.as_ptr(),
-            night.lengths.len(),
-            night.inbound.as_ptr(),
-            night.inbound.len(),
-            night.tracks,
-            night.room,
-            limit,
-            codes.as_mut_ptr(),
-            codes.len(),
-        )
-    })?;
+    let mut codes = items(night);
+    let answer = done(altairpeg_sys::derive(night, limit, &mut codes))?;
     Ok(Derived {
         steps: answer.a,
         passes: answer.b,
@@ -174,19 +162,7 @@ pub fn derive(night: Night, limit: usize) -> Result<Derived, Refusal> {
 
 /// Checks a plan offered by anyone, by its replay; refuses 1, 2, 3, 4, 7, 8, 6 or 9.
 pub fn check(plan: Plan) -> Result<Checked, Refusal> {
-    let answer = done(unsafe {
-        ffi::altairpeg_check(
-            plan.night.lengths.as_ptr(),
-            plan.night.lengths.len(),
-            plan.night.inbound.as_ptr(),
-            plan.night.inbound.len(),
-            plan.codes.as_ptr(),
-            plan.codes.len(),
-            plan.night.tracks,
-            plan.night.room,
-            plan.steps,
-        )
-    })?;
+    let answer = done(altairpeg_sys::check(plan))?;
     Ok(Checked {
         passes: answer.a,
         fullest_pull: answer.b,
@@ -197,26 +173,9 @@ pub fn check(plan: Plan) -> Result<Checked, Refusal> {
 ///
 /// Stage 0 is the yard after the first roll-in, stage s after s steps.
 pub fn replay(plan: Plan, stage: usize) -> Result<Stage, Refusal> {
-    let mut tracks = vec![0; plan.night.inbound.len()];
-    let mut places = vec![0; plan.night.inbound.len()];
-    let answer = done(unsafe {
-        ffi::altairpeg_replay(
-            plan.night.lengths.as_ptr(),
-            plan.night.lengths.len(),
-            plan.night.inbound.as_ptr(),
-            plan.night.inbound.len(),
-            plan.codes.as_ptr(),
-            plan.codes.len(),
-            plan.night.tracks,
-            plan.night.room,
-            plan.steps,
-            stage,
-            tracks.as_mut_ptr(),
-            tracks.len(),
-            places.as_mut_ptr(),
-            places.len(),
-        )
-    })?;
+    let mut tracks = items(plan.night);
+    let mut places = items(plan.night);
+    let answer = done(altairpeg_sys::replay(plan, stage, &mut tracks, &mut places))?;
     Ok(Stage {
         passes: answer.a,
         tracks,
@@ -238,18 +197,7 @@ pub fn read_card(card: &[u8]) -> Result<Card, Refusal> {
     let mut lengths = vec![0; TRAINS];
     let mut inbound = vec![0; CARS];
     let mut codes = vec![0; CARS];
-    let told = unsafe {
-        ffi::altairpeg_read(
-            card.as_ptr(),
-            card.len(),
-            lengths.as_mut_ptr(),
-            lengths.len(),
-            inbound.as_mut_ptr(),
-            inbound.len(),
-            codes.as_mut_ptr(),
-            codes.len(),
-        )
-    };
+    let told = altairpeg_sys::read(card, &mut lengths, &mut inbound, &mut codes);
     done(told.answer)?;
     lengths.truncate(told.trains);
     inbound.truncate(told.cars);
@@ -267,21 +215,7 @@ pub fn read_card(card: &[u8]) -> Result<Card, Refusal> {
 /// Writes the night card of a plan; refuses 1, 2, 3, 4 or 7.
 pub fn write_card(plan: Plan) -> Result<Vec<u8>, Refusal> {
     let mut card = vec![0; CARD_BYTES];
-    let answer = done(unsafe {
-        ffi::altairpeg_write(
-            plan.night.lengths.as_ptr(),
-            plan.night.lengths.len(),
-            plan.night.inbound.as_ptr(),
-            plan.night.inbound.len(),
-            plan.codes.as_ptr(),
-            plan.codes.len(),
-            plan.night.tracks,
-            plan.night.room,
-            plan.steps,
-            card.as_mut_ptr(),
-            card.len(),
-        )
-    })?;
+    let answer = done(altairpeg_sys::write(plan, &mut card))?;
     card.truncate(answer.a);
     Ok(card)
 }
@@ -294,7 +228,7 @@ pub fn write_card(plan: Plan) -> Result<Vec<u8>, Refusal> {
 /// assert_eq!(altairpeg::price(9, 11, timings).unwrap_err().a, 5);
 /// ```
 pub fn price(steps: usize, passes: usize, timings: Timings) -> Result<f64, Refusal> {
-    let told = unsafe { ffi::altairpeg_price(steps, passes, timings) };
+    let told = altairpeg_sys::price(steps, passes, timings);
     done(told.answer).map(|_| told.price)
 }
 
@@ -304,5 +238,5 @@ pub fn price(steps: usize, passes: usize, timings: Timings) -> Result<f64, Refus
 /// assert_eq!([0, 4, 5, 9, 129, 128].map(altairpeg::fewest_tracks), [1, 3, 2, 3, 7, 8]);
 /// ```
 pub fn fewest_tracks(code: u8) -> usize {
-    unsafe { ffi::altairpeg_fewest_tracks(code) }
+    altairpeg_sys::fewest_tracks(code)
 }

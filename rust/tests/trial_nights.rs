@@ -121,7 +121,10 @@ fn case_11_pulled_early() {
 
 #[test]
 fn case_12_a_car_twice() {
-    assert_eq!(derive(night(&[2], &[1, 1], 2, 512), 8), Err(refused(3, 2, 0)));
+    assert_eq!(
+        derive(night(&[2], &[1, 1], 2, 512), 8),
+        Err(refused(3, 2, 0))
+    );
 }
 
 #[test]

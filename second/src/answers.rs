@@ -1,6 +1,5 @@
-//! What the yard is told, in the shape in which the C interface hands it over.
+//! What the yard is told.
 
-#[repr(C)]
 #[derive(Clone, Copy, Debug, PartialEq, Eq)]
 pub struct Answer {
     pub number: usize,
@@ -8,7 +7,6 @@ pub struct Answer {
     pub b: usize,
 }
 
-#[repr(C)]
 #[derive(Clone, Copy, Debug, PartialEq, Eq)]
 pub struct CardAnswer {
     pub number: usize,
@@ -21,14 +19,12 @@ pub struct CardAnswer {
     pub trains: usize,
 }
 
-#[repr(C)]
 #[derive(Clone, Copy, Debug)]
 pub struct Timings {
     pub pull: f64,
     pub push: f64,
 }
 
-#[repr(C)]
 #[derive(Clone, Copy, Debug)]
 pub struct PriceAnswer {
     pub number: usize,

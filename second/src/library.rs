@@ -1,133 +1,23 @@
-//! The library through its C interface: a slice goes over as a pointer, then a length.
+//! The library through its C interface, with its answers in the second program's own types.
 
 use crate::answers::{Answer, CardAnswer, PriceAnswer, Timings};
 use crate::{Calls, Night, Plan};
 
-#[link(name = "altairpeg", kind = "static")]
-extern "C" {
-    fn altairpeg_derive(
-        lengths: *const u16,
-        lengths_len: usize,
-        inbound: *const u16,
-        inbound_len: usize,
-        tracks: usize,
-        room: usize,
-        limit: usize,
-        codes: *mut u16,
-        codes_len: usize,
-    ) -> Answer;
-    fn altairpeg_check(
-        lengths: *const u16,
-        lengths_len: usize,
-        inbound: *const u16,
-        inbound_len: usize,
-        codes: *const u16,
-        codes_len: usize,
-        tracks: usize,
-        room: usize,
-        steps: usize,
-    ) -> Answer;
-    fn altairpeg_replay(
-        lengths: *const u16,
-        lengths_len: usize,
-        inbound: *const u16,
-        inbound_len: usize,
-        codes: *const u16,
-        codes_len: usize,
-        tracks: usize,
-        room: usize,
-        steps: usize,
-        stage: usize,
-        on: *mut u16,
-        on_len: usize,
-        at: *mut u16,
-        at_len: usize,
-    ) -> Answer;
-    fn altairpeg_read(
-        card: *const u8,
-        card_len: usize,
-        lengths: *mut u16,
-        lengths_len: usize,
-        inbound: *mut u16,
-        inbound_len: usize,
-        codes: *mut u16,
-        codes_len: usize,
-    ) -> CardAnswer;
-    fn altairpeg_write(
-        lengths: *const u16,
-        lengths_len: usize,
-        inbound: *const u16,
-        inbound_len: usize,
-        codes: *const u16,
-        codes_len: usize,
-        tracks: usize,
-        room: usize,
-        steps: usize,
-        card: *mut u8,
-        card_len: usize,
-    ) -> Answer;
-    fn altairpeg_price(steps: usize, passes: usize, timings: Timings) -> PriceAnswer;
-    fn altairpeg_fewest_tracks(code: u8) -> usize;
-}
-
 pub struct Library;
 
-// SAFETY, for every call below: each pointer comes from a slice and goes with its length,
-// the slices written are lent mutably and so overlap no other, and nothing is kept.
 impl Calls for Library {
     const NAME: &'static str = "library";
 
     fn derive(night: Night, limit: usize, codes: &mut [u16]) -> Answer {
-        unsafe {
-            altairpeg_derive(
-                night.lengths.as_ptr(),
-                night.lengths.len(),
-                night.inbound.as_ptr(),
-                night.inbound.len(),
-                night.tracks,
-                night.room,
-                limit,
-                codes.as_mut_ptr(),
-                codes.len(),
-            )
-        }
+        altairpeg_sys::derive(lent_night(night), limit, codes).into()
     }
 
     fn check(plan: Plan) -> Answer {
-        unsafe {
-            altairpeg_check(
-                plan.night.lengths.as_ptr(),
-                plan.night.lengths.len(),
-                plan.night.inbound.as_ptr(),
-                plan.night.inbound.len(),
-                plan.codes.as_ptr(),
-                plan.codes.len(),
-                plan.night.tracks,
-                plan.night.room,
-                plan.steps,
-            )
-        }
+        altairpeg_sys::check(lent(plan)).into()
     }
 
     fn replay(plan: Plan, stage: usize, on: &mut [u16], at: &mut [u16]) -> Answer {
-        unsafe {
-            altairpeg_replay(
-                plan.night.lengths.as_ptr(),
-                plan.night.lengths.len(),
-                plan.night.inbound.as_ptr(),
-                plan.night.inbound.len(),
-                plan.codes.as_ptr(),
-                plan.codes.len(),
-                plan.night.tracks,
-                plan.night.room,
-                plan.steps,
-                stage,
-                on.as_mut_ptr(),
-                on.len(),
-                at.as_mut_ptr(),
-                at.len(),
-            )
-        }
+        altairpeg_sys::replay(lent(plan), stage, on, at).into()
     }
 
     fn read(
@@ -136,43 +26,62 @@ impl Calls for Library {
         inbound: &mut [u16],
         codes: &mut [u16],
     ) -> CardAnswer {
-        unsafe {
-            altairpeg_read(
-                card.as_ptr(),
-                card.len(),
-                lengths.as_mut_ptr(),
-                lengths.len(),
-                inbound.as_mut_ptr(),
-                inbound.len(),
-                codes.as_mut_ptr(),
-                codes.len(),
-            )
+        let told = altairpeg_sys::read(card, lengths, inbound, codes);
+        CardAnswer {
+            number: told.answer.number,
+            a: told.answer.a,
+            b: told.answer.b,
+            steps: told.steps,
+            tracks: told.tracks,
+            room: told.room,
+            cars: told.cars,
+            trains: told.trains,
         }
     }
 
     fn write(plan: Plan, card: &mut [u8]) -> Answer {
-        unsafe {
-            altairpeg_write(
-                plan.night.lengths.as_ptr(),
-                plan.night.lengths.len(),
-                plan.night.inbound.as_ptr(),
-                plan.night.inbound.len(),
-                plan.codes.as_ptr(),
-                plan.codes.len(),
-                plan.night.tracks,
-                plan.night.room,
-                plan.steps,
-                card.as_mut_ptr(),
-                card.len(),
-            )
-        }
+        altairpeg_sys::write(lent(plan), card).into()
     }
 
     fn price(steps: usize, passes: usize, timings: Timings) -> PriceAnswer {
-        unsafe { altairpeg_price(steps, passes, timings) }
+        let Timings { pull, push } = timings;
+        let told = altairpeg_sys::price(steps, passes, altairpeg_sys::Timings { pull, push });
+        PriceAnswer {
+            number: told.answer.number,
+            a: told.answer.a,
+            b: told.answer.b,
+            price: told.price,
+        }
     }
 
     fn fewest_tracks(code: u8) -> usize {
-        unsafe { altairpeg_fewest_tracks(code) }
+        altairpeg_sys::fewest_tracks(code)
+    }
+}
+
+fn lent_night(night: Night) -> altairpeg_sys::Night {
+    altairpeg_sys::Night {
+        lengths: night.lengths,
+        inbound: night.inbound,
+        tracks: night.tracks,
+        room: night.room,
+    }
+}
+
+fn lent(plan: Plan) -> altairpeg_sys::Plan {
+    altairpeg_sys::Plan {
+        night: lent_night(plan.night),
+        steps: plan.steps,
+        codes: plan.codes,
+    }
+}
+
+impl From<altairpeg_sys::Answer> for Answer {
+    fn from(told: altairpeg_sys::Answer) -> Answer {
+        Answer {
+            number: told.number,
+            a: told.a,
+            b: told.b,
+        }
     }
 }

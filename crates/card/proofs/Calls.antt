@@ -11,7 +11,6 @@ use Rattle.yard.specs.Night.{Plan, planOf}
 use Rattle.yard.specs.Limits.{limits}
 use Rattle.yard.specs.Answers.{written}
 use Rattle.yard.specs.Card.{card, cardPlan, writerAnswer, Writes, Reads}
-use Rattle.yard.proofs.Bits.{Below}
 use Rattle.yard.proofs.Card.{cardPlan-cars, cardPlan-codes}
 use Rattle.yard.proofs.CardCalls.{Told, read-told, written-then-read, read-then-written}
 
@@ -50,29 +49,26 @@ write-then-read = written-then-read
 
 -- A card that `read` accepts is byte for byte the one that `write` makes of what was read.
 pub read-then-write : {bytes l i c : List ℕ} {r : CardAnswer} {l₁ i₁ c₁ before : List ℕ} {w : Answer} {after : List ℕ}
-    → Below 256 bytes
     → Reads bytes l i c r l₁ i₁ c₁
     → r .number ≡ 0
     → Writes (planRead r l₁ i₁ c₁) before w after
     → length bytes ≤ length before
     → (w .number ≡ 0) × (take (w .a) after ≡ bytes)
-read-then-write small reads e writes h = read-then-written small reads e (rw (plan-read reads e) at writes) h
+read-then-write reads e writes h = read-then-written reads e (rw (plan-read reads e) at writes) h
 
 -- So no two cards are read as one plan.
 pub one-card : {x y l i c : List ℕ} {r : CardAnswer} {l₁ i₁ c₁ k j d : List ℕ} {s : CardAnswer} {k₁ j₁ d₁ : List ℕ}
-    → Below 256 x
-    → Below 256 y
     → Reads x l i c r l₁ i₁ c₁
     → Reads y k j d s k₁ j₁ d₁
     → r .number ≡ 0
     → s .number ≡ 0
     → planRead r l₁ i₁ c₁ ≡ planRead s k₁ j₁ d₁
     → x ≡ y
-one-card {x} {y} {r = r} {l₁ = l₁} {i₁ = i₁} {c₁ = c₁} {s = s} {k₁ = k₁} {j₁ = j₁} {d₁ = d₁} small-x small-y reads-x reads-y rx ry same =
+one-card {x} {y} {r = r} {l₁ = l₁} {i₁ = i₁} {c₁ = c₁} {s = s} {k₁ = k₁} {j₁ = j₁} {d₁ = d₁} reads-x reads-y rx ry same =
     let before = x ++ y in
     let answer : Plan → Answer = λ p. writerAnswer limits p (length before) in
     let after : Plan → List ℕ = λ p. written (answer p) (card p) before in
     let writes : (p : Plan) → Writes p before (answer p) (after p) = λ p. record { answer = refl; bytes = refl } in
-    let first = read-then-write small-x reads-x rx (writes (planRead r l₁ i₁ c₁)) (omega (arith, length-append x y)) in
-    let second = read-then-write small-y reads-y ry (writes (planRead s k₁ j₁ d₁)) (omega (arith, length-append x y)) in
+    let first = read-then-write reads-x rx (writes (planRead r l₁ i₁ c₁)) (omega (arith, length-append x y)) in
+    let second = read-then-write reads-y ry (writes (planRead s k₁ j₁ d₁)) (omega (arith, length-append x y)) in
     sym (first .1) ∙ ap (λ p. take (answer p .a) (after p)) same ∙ second .1

@@ -20,10 +20,9 @@ use Rattle.yard.proofs.Counting.{gaps-top}
 use Rattle.yard.proofs.Least.{F-usable}
 use Rattle.yard.proofs.Plans.{usable-gaps}
 use Rattle.yard.proofs.DerivedPlan.{codeNumber-usable}
-use Rattle.codes.specs.Front.{Front}
+use Rattle.scan.specs.Front.{Under, Front}
 use Rattle.codes.specs.Ring.{lost}
-use Rattle.codes.specs.Wider.{OfEight}
-use Rattle.codes.proofs.Front.{front-items, front-over}
+use Rattle.scan.proofs.Front.{front-items, front-over}
 use Rattle.codes.proofs.Gap.{usable-gap, usable-grow}
 
 -- ---- numbers that pass a test
@@ -106,14 +105,14 @@ module _ (W h : ℕ) (pos : 0 < W) where
       (keep-map u (λ x. 2 ^ h + x) (upFrom 0 (2 ^ h)) ∙
       ap (map (λ x. 2 ^ h + x)) tops)))))
 
-  -- the codes written so far: how many there are, and none is too large for a byte
+  -- the codes written so far: how many there are, and each is below the bit of the next step
   module _ {s t : List ℕ} {n : ℕ} (f : Front (usableCodes W h) s n t) where
     pub written-number : n ≡ F W h
     written-number = f .number ∙ F-usable W h pos
 
-    pub written-small : h ≤ 8 → OfEight (take n t)
+    pub written-small : Under (2 ^ h) (take n t)
     unfolding codeNumber
-    written-small l = rw (front-items f) (λ i m. lt-of-lt-of-le (codeNumber-usable W h pos i (omega (arith, F-usable W h pos)) .1) (pow-mono l))
+    written-small = rw (front-items f) (λ i m. codeNumber-usable W h pos i (omega (arith, F-usable W h pos)) .1)
 
     pub written-next : {bit but r : ℕ} {u : List ℕ} → bit ≡ 2 ^ h → but ≡ lost W h → Front (take n t ++ map (λ x. bit + x) (drop but (take n t))) t r u → Front (usableCodes W (h + 1)) s r u
     written-next {bit} {but} {r} {u} e l g =

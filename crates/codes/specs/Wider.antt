@@ -1,15 +1,11 @@
 -- Which code of a list needs more tracks than there are.
-use Prim.Native.Nat.{ℕ, _^_, _<_}
+use Prim.Native.Nat.{ℕ}
 use mathlib.Core.Bool.{Bool}
 use mathlib.Core.List.{List}
 use lib.Dec.{ltb}
 use lib.ListN.{length, getD}
 use Rattle.yard.specs.Words.{first}
 use Rattle.yard.specs.Codes.{fewestTracks}
-
--- codes of eight steps at most
-abbrev pub OfEight : List ℕ → Type 0
-OfEight codes = (i : ℕ) → i < length codes → getD codes i 0 < 2 ^ 8
 
 -- the code at this index needs more tracks than these to be never pulled early; the first such index
 abbrev pub wider : ℕ → List ℕ → ℕ → Bool

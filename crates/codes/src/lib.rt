@@ -3,14 +3,16 @@ ghost use mathlib.Core.Path.{_≡_};
 ghost use mathlib.Core.List.{_++_, map};
 ghost use Prim.Native.Nat.{_+_, _≤_, _^_};
 ghost use lib.ListN.{length, take, drop};
+ghost use Rattle.yard.specs.Limits.{limits};
+ghost use Rattle.yard.specs.Demands.{Within};
 ghost use Rattle.yard.specs.Codes.{F, fewestTracks, fewestSteps, usableCodes};
 ghost use Rattle.codes.specs.Gap.{gaps};
-ghost use Rattle.codes.specs.Front.{Front};
+ghost use Rattle.scan.specs.Front.{Under, Front};
 ghost use Rattle.codes.specs.Ring.{lost, Ring};
-ghost use Rattle.codes.specs.Wider.{OfEight, firstWider};
+ghost use Rattle.codes.specs.Wider.{firstWider};
 
-// The most tracks for which steps and codes are worked out.
-const TRACKS: usize = 16;
+// How many codes there are of the most steps.
+pub const CODES: usize = 1 << yard::STEPS;
 
 // The fewest tracks on which a car with a code is never pulled early, by code.
 const FEWEST: [u8; 256] = [
@@ -272,6 +274,13 @@ const FEWEST: [u8; 256] = [
     1,
 ];
 
+// The table, with its rule: computed over all codes here, and nowhere else.
+fn table() -> [u8; 256]
+    ensures { λ r. ⌜ r ≡ gaps 8 ⌝ }
+{
+    FEWEST
+}
+
 // An entry of the table, as wide as the counts.
 fn wide(entry: u8) -> usize
     ensures { λ r. ⌜ r ≡ entry ⌝ }
@@ -283,12 +292,13 @@ fn wide(entry: u8) -> usize
 pub fn fewest_tracks(code: u8) -> usize
     ensures { λ r. ⌜ r ≡ fewestTracks 8 code ⌝ }
 {
-    wide(FEWEST[code as usize])
+    let table = table();
+    wide(table[code as usize])
 }
 
 // The index of the first code whose entry of the table is above these tracks, or the number of codes where none is.
 fn first_above(table: &[u8], codes: &[u16], tracks: usize) -> usize
-    requires { ⌜ (now table ≡ gaps 8) × OfEight (now codes) ⌝ }
+    requires { ⌜ (now table ≡ gaps 8) × Under (2 ^ 8) (now codes) ⌝ }
     ensures { λ r. ⌜ r ≡ firstWider tracks (now (codes .entry)) ⌝ }
 {
     for i in 0..codes.len() {
@@ -301,10 +311,10 @@ fn first_above(table: &[u8], codes: &[u16], tracks: usize) -> usize
 
 // The index of the first code that needs more tracks than these, or the number of codes where none does.
 pub fn first_wider(codes: &[u16], tracks: usize) -> usize
-    requires { ⌜ OfEight (now codes) ⌝ }
+    requires { ⌜ Under (2 ^ 8) (now codes) ⌝ }
     ensures { λ r. ⌜ r ≡ firstWider tracks (now (codes .entry)) ⌝ }
 {
-    let table = FEWEST;
+    let table = table();
     first_above(&table, codes, tracks)
 }
 
@@ -321,10 +331,10 @@ fn lost(ring: &mut [usize], tracks: usize, step: usize, codes: usize) -> usize
 
 // The fewest steps that give a usable code for each number of breaks up to this one.
 pub fn fewest_steps(tracks: usize, breaks: usize) -> usize
-    requires { ⌜ (1 ≤ tracks) × (tracks ≤ 16) × (breaks ≤ 65536) ⌝ }
+    requires { ⌜ Within 1 (limits .tracks) tracks × (breaks ≤ limits .cars) ⌝ }
     ensures { λ r. ⌜ r ≡ fewestSteps tracks breaks ⌝ }
 {
-    let mut ring = [0usize; TRACKS];
+    let mut ring = [0usize; yard::TRACKS];
     let mut codes: usize = 1;
     let mut steps: usize = 0;
     while codes <= breaks {
@@ -336,7 +346,7 @@ pub fn fewest_steps(tracks: usize, breaks: usize) -> usize
 
 // Writes the codes but the first ones once more behind them, with a bit added, and answers how many there are then.
 fn with_bit(bit: u16, but: usize, codes: usize, into: &mut [u16]) -> usize
-    requires { ⌜ (bit ≤ 256) × (but ≤ codes) × (codes + codes ≤ length (now into) + but) × OfEight (take codes (now into)) ⌝ }
+    requires { ⌜ (but ≤ codes) × (codes + codes ≤ length (now into) + but) × Under bit (take codes (now into)) × (bit + bit ≤ 2 ^ 16) ⌝ }
     ensures { λ r. ⌜ Front (take codes (now (into .entry)) ++ map (λ x. bit + x) (drop but (take codes (now (into .entry))))) (now (into .entry)) r (now (into .exit)) ⌝ }
 {
     for k in 0..codes - but {
@@ -347,10 +357,10 @@ fn with_bit(bit: u16, but: usize, codes: usize, into: &mut [u16]) -> usize
 
 // Writes the usable codes of these steps to the front of a list, in rising order, and answers how many there are.
 pub fn usable_codes(tracks: usize, steps: usize, into: &mut [u16]) -> usize
-    requires { ⌜ (1 ≤ tracks) × (tracks ≤ 16) × (steps ≤ 8) × (2 ^ steps ≤ length (now into)) ⌝ }
+    requires { ⌜ Within 1 (limits .tracks) tracks × (steps ≤ limits .steps) × (2 ^ steps ≤ length (now into)) ⌝ }
     ensures { λ r. ⌜ Front (usableCodes tracks steps) (now (into .entry)) r (now (into .exit)) ⌝ }
 {
-    let mut ring = [0usize; TRACKS];
+    let mut ring = [0usize; yard::TRACKS];
     let mut codes: usize = 1;
     into[0] = 0;
     for step in 0..steps {

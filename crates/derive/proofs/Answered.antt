@@ -25,20 +25,20 @@ use Rattle.yard.proofs.Formed.{lists-passed}
 use Rattle.yard.proofs.DerivedPlan.{derived-length, derived-sorts}
 use Rattle.yard.proofs.PlanYard.{passes-codes, pullSize-codes}
 use Rattle.intake.proofs.Tests.{last-test}
-use Rattle.sorting.specs.Sums.{named, setBelow, above, firstAbove}
+use Rattle.sorting.specs.Sums.{pullOf, setBelow, above, firstAbove}
 use Rattle.derive.specs.Plans.{givenTests, Given, settled, Settles, planned, Planned}
 
 -- ---- the room, worked out from the codes
 
 module _ (room steps : ℕ) (derived before : List ℕ) {r : Answer} {full : ℕ} (e : full ≡ firstAbove room derived steps) where
-  pub settles-full : {cars : ℕ} → r ≡ says 6 full cars → full < steps → cars ≡ named derived full → Settles room steps derived before r before
+  pub settles-full : {cars : ℕ} → r ≡ says 6 full cars → full < steps → cars ≡ pullOf derived full → Settles room steps derived before r before
   settles-full {cars} says-so m q =
       record {
-        answer = says-so ∙ (ap₂ (says 6) e (q ∙ ap (named derived) e) ∙ refused (lt-leb steps (firstAbove room derived steps) (omega arith)));
+        answer = says-so ∙ (ap₂ (says 6) e (q ∙ ap (pullOf derived) e) ∙ refused (lt-leb steps (firstAbove room derived steps) (omega arith)));
         codes = sym (ap (λ (a : Answer). written a derived before) says-so);
       }
     where
-      refused : leb steps (firstAbove room derived steps) ≡ false → says 6 (firstAbove room derived steps) (named derived (firstAbove room derived steps)) ≡ settled room steps derived
+      refused : leb steps (firstAbove room derived steps) ≡ false → says 6 (firstAbove room derived steps) (pullOf derived (firstAbove room derived steps)) ≡ settled room steps derived
       refused f = rw f refl
 
   pub settles-fits : {p : ℕ} {after : List ℕ} → r ≡ says 0 steps p → steps ≤ full → p ≡ length derived + setBelow steps derived → after ≡ derived ++ drop (length derived) before → Settles room steps derived before r after
@@ -83,7 +83,7 @@ module _ (n : Night) (f : Listed (n .lengths) (n .inbound)) (pos : 0 < n .tracks
       answerOf : ℕ → ℕ → ℕ → Answer
       answerOf k cars p = verdict (test (leb steps k) (says 6 k cars) ∷ []) (says 0 steps p)
 
-      go : (p : ℕ) → (steps ≤ full) ⊎ (full < steps) → answerOf full (named (derivedCodes n) full) p ≡ answerOf full (pullSize (derivedPlan n) full) p
+      go : (p : ℕ) → (steps ≤ full) ⊎ (full < steps) → answerOf full (pullOf (derivedCodes n) full) p ≡ answerOf full (pullSize (derivedPlan n) full) p
       go p (inl fits) = rw (le-leb steps full fits) refl
       go p (inr over) =
           let sorts = derived-sorts n f pos in

@@ -12,15 +12,14 @@ use Rattle.yard.specs.Derived.{stepsNeeded, derivedCodes}
 use Rattle.yard.specs.Demands.{Listed}
 use Rattle.yard.proofs.Least.{F-usable}
 use Rattle.yard.proofs.DerivedPlan.{map-item, length-by-car, fewest-enough, before-most, derived-length}
-use Rattle.codes.specs.Front.{Front}
-use Rattle.codes.proofs.Front.{front-item, front-fits, front-behind}
-use Rattle.derive.specs.Numbers.{Numbers}
-use Rattle.derive.specs.Plans.{Below}
+use Rattle.scan.specs.Front.{Under, Front}
+use Rattle.scan.proofs.Front.{front-item, front-fits, front-behind}
+use Rattle.breaks.specs.Numbers.{Numbers}
 
 -- the number at hand is as it came, so the table has its code
-module _ (W h : ℕ) (pos : 0 < W) {s table numbers done now : List ℕ} {r i : ℕ} (codes : Front (usableCodes W h) s r table) (below : Below (F W h) numbers) (l : i < length numbers) (held : Front done numbers i now) where
+module _ (W h : ℕ) (pos : 0 < W) {s table numbers done now : List ℕ} {r i : ℕ} (codes : Front (usableCodes W h) s r table) (below : Under (F W h) numbers) (l : i < length numbers) (held : Front done numbers i now) where
   coded-below : getD now i 0 < r
-  coded-below = omega (arith, below .item i l, front-behind held, codes .number, F-usable W h pos)
+  coded-below = omega (arith, below i l, front-behind held, codes .number, F-usable W h pos)
 
   pub number-fits : getD now i 0 < length table
   number-fits = omega (arith, coded-below, front-fits codes)
@@ -39,22 +38,19 @@ module _ (n : Night) (f : Listed (n .lengths) (n .inbound)) (pos : 0 < n .tracks
     number = breaksBefore (n .lengths) (n .inbound)
 
     -- there is a code for each number
-    pub numbers-below : Below (F (n .tracks) steps) (take (length (n .inbound) - 0) list)
+    pub numbers-below : Under (F (n .tracks) steps) (take (length (n .inbound) - 0) list)
     unfolding number stepsNeeded
     numbers-below =
         rw (sub-zero, k .listed)
-        record {
-          item =
-              λ i l.
-              let car : i < length (n .inbound) = omega (arith, length-by-car number (length (n .inbound))) in
-              omega (
-                arith,
-                map-item number 1 (length (n .inbound)) i car,
-                before-most n f (1 + i) (omega arith, omega arith),
-                fewest-enough (n .tracks) (mostBreaks (n .lengths) (n .inbound)) pos,
-                ap (F (n .tracks)) needed,
-              );
-        }
+        (λ i l.
+        let car : i < length (n .inbound) = omega (arith, length-by-car number (length (n .inbound))) in
+        omega (
+          arith,
+          map-item number 1 (length (n .inbound)) i car,
+          before-most n f (1 + i) (omega arith, omega arith),
+          fewest-enough (n .tracks) (mostBreaks (n .lengths) (n .inbound)) pos,
+          ap (F (n .tracks)) needed,
+        ))
 
     coded : map (codeNumber (n .tracks) steps) (take (length (n .inbound) - 0) list) ≡ derivedCodes n
     unfolding derivedCodes number

@@ -1,20 +1,21 @@
 -- Demand 3 on the call: what whoever calls `derive` may rely on, by what it promises of its answer and of the lent buffer.
+use Prim.Native.Nat.{ℕ, _≤_, _<_}
 use mathlib.Core.Path.{_≡_, sym, ap, ap₂, _∙_, subst}
 use mathlib.Core.Logic.{_↔_}
-use mathlib.Core.List.{List, _++_}
-use Prim.Native.Nat.{ℕ, _≤_}
+use mathlib.Core.List.{List}
+use native.Mathlib.Nat.{le-refl, le-antisymm}
 use lib.ListN.{length, take, drop}
-use lib.Seq.{take-at, drop-at}
 use Rattle.yard.specs.declared.Answer.{Answer}
 use Rattle.yard.specs.Limits.{limits}
 use Rattle.yard.specs.Night.{Night, Plan}
-use Rattle.yard.specs.Replay.{yardAt}
-use Rattle.yard.specs.Derived.{stepsNeeded, derivedCodes, derivedPlan}
-use Rattle.yard.specs.Answers.{says}
-use Rattle.yard.specs.Calls.{deriveAnswer, Derives}
-use Rattle.yard.specs.Demands.{AllHold, HasRoom, Sorts, Sortable, deriveReasons}
+use Rattle.yard.specs.Replay.{yardAt, pullSize}
+use Rattle.yard.specs.Derived.{derivedCodes, derivedPlan}
+use Rattle.yard.specs.Demands.{Least, Given, HasRoom, Sorts, Sortable, OverfullStep}
+use Rattle.yard.specs.Answers.{says, onto, FirstFails}
+use Rattle.yard.specs.Calls.{deriveAsks, deriveAnswer, DeriveGiven, Derives}
+use Rattle.yard.proofs.Fronts.{front-taken, front-left}
 use Rattle.yard.proofs.Verdict.{written-accepted, written-refused}
-use Rattle.yard.proofs.Demands.{derive-accepts-exactly, derive-least, derive-limit-exactly, derive-room-exactly, wellGiven}
+use Rattle.yard.proofs.Demands.{LeastPlan, derive-accepts-exactly, derive-refuses-exactly, derive-least, derived-least, derive-limit-exactly, derive-room-exactly}
 
 -- the plan that the caller is told: the steps answered, and the first n items of the buffer
 abbrev pub told : Night → Answer → List ℕ → Plan
@@ -40,50 +41,67 @@ module _ (n : Night) (limit : ℕ) (before : List ℕ) (r : Answer) (after : Lis
   unfolding derivedPlan
   call-tells z =
       record {
-        sorts = subst Sorts (sym plan) (least .0);
-        room = subst HasRoom (sym plan) (held .1 .1 .1 .1 .1 .1 .1 .1 .1 .1 .0);
-        least = λ h codes s. subst (λ (k : ℕ). k ≤ h) (sym steps) (least .1 h codes s);
+        sorts = subst Sorts (sym plan) (least .sorts);
+        room = subst HasRoom (sym plan) (derive-accepts-exactly limits n limit (length before) .0 accepted .room);
+        least = λ h codes s. subst (λ (k : ℕ). k ≤ h) (sym steps) (least .least h codes s);
         passes = ap (λ (a : Answer). a .b) answered ∙ ap₂ (λ (p : Plan) (s : ℕ). yardAt p s .rolled) (sym plan) (sym steps);
-        rest = ap (drop (length (n .inbound))) written ∙ drop-at (derivedCodes n) (drop (length (derivedCodes n)) before) (length (n .inbound)) size ∙ ap (λ (k : ℕ). drop k before) size;
+        rest = front-left (derivedCodes n) before written size;
       }
     where
       accepted : deriveAnswer limits n limit (length before) .number ≡ 0
       accepted = sym same-number ∙ z
 
-      held : AllHold (deriveReasons limits n limit (length before))
-      held = derive-accepts-exactly limits n limit (length before) .0 accepted
+      told-least : LeastPlan n (derivedPlan n) × (deriveAnswer limits n limit (length before) ≡ says 0 (derivedPlan n .steps) (yardAt (derivedPlan n) (derivedPlan n .steps) .rolled))
+      told-least = derive-least limits n limit (length before) accepted
 
-      least : Sorts (derivedPlan n) × ((h : ℕ) (codes : List ℕ) → Sorts (record { night = n; steps = h; codes = codes }) → stepsNeeded n ≤ h) × (deriveAnswer limits n limit (length before) ≡ says 0 (derivedPlan n .steps) (yardAt (derivedPlan n) (derivedPlan n .steps) .rolled))
-      least = derive-least limits n limit (length before) accepted
+      least : LeastPlan n (derivedPlan n)
+      least = told-least .0
 
       answered : r ≡ says 0 (derivedPlan n .steps) (yardAt (derivedPlan n) (derivedPlan n .steps) .rolled)
-      answered = promise .answer ∙ least .2
+      answered = promise .answer ∙ told-least .1
 
       steps : r .a ≡ derivedPlan n .steps
       steps = ap (λ (a : Answer). a .a) answered
 
       size : length (derivedCodes n) ≡ length (n .inbound)
-      size = least .0 .codes .each
+      size = least .sorts .codes .each
 
-      written : after ≡ derivedCodes n ++ drop (length (derivedCodes n)) before
+      written : after ≡ onto (derivedCodes n) before
       written = promise .codes ∙ written-accepted (deriveAnswer limits n limit (length before)) (derivedCodes n) before accepted
 
       plan : told n r after ≡ derivedPlan n
-      plan =
-          ap₂ (λ (s : ℕ) (codes : List ℕ). record { night = n; steps = s; codes = codes }) steps
-          (ap (take (length (n .inbound))) written ∙ take-at (derivedCodes n) (drop (length (derivedCodes n)) before) (length (n .inbound)) size)
+      plan = ap₂ (λ (s : ℕ) (codes : List ℕ). record { night = n; steps = s; codes = codes }) steps (front-taken (derivedCodes n) before written size)
+
+  -- it refuses with k, A and B exactly if the first ask that does not hold has number k, and tells A and B
+  pub call-refuses : (k a b : ℕ) → 0 < k → (r ≡ says k a b) ↔ FirstFails k a b (deriveAsks limits n limit (length before))
+  call-refuses k a b pos =
+      let exactly = derive-refuses-exactly limits n limit (length before) k a b pos in
+      (λ e. exactly .0 (sym (promise .answer) ∙ e), λ h. promise .answer ∙ exactly .1 h)
 
   -- a limit is refused exactly if no plan that builds the trains keeps to it, whatever its codes
-  pub call-limit : (r .number ≡ 5) ↔ (AllHold (wellGiven limits n limit (length before)) × (Sortable n limit → ⊥))
-  call-limit =
-      let exactly = derive-limit-exactly limits n limit (length before) in
-      (λ e. exactly .0 (sym same-number ∙ e), λ h. same-number ∙ exactly .1 h)
+  pub call-limit : (a b : ℕ) → (r ≡ says 5 a b) ↔ (DeriveGiven limits n limit (length before) × (Sortable n limit → ⊥) × Least (Sortable n) a × (b ≡ 0))
+  call-limit a b =
+      let exactly = derive-limit-exactly limits n limit (length before) a b in
+      (λ e. exactly .0 (sym (promise .answer) ∙ e), λ h. promise .answer ∙ exactly .1 h)
 
-  -- room is refused exactly if the derived plan overfills a track
-  pub call-room : (r .number ≡ 6) ↔ (AllHold (wellGiven limits n limit (length before)) × Sortable n limit × (HasRoom (derivedPlan n) → ⊥))
-  call-room =
-      let exactly = derive-room-exactly limits n limit (length before) in
-      (λ e. exactly .0 (sym same-number ∙ e), λ h. same-number ∙ exactly .1 h)
+  -- then every plan that builds the trains has at least A steps, and one has exactly A
+  pub call-limit-least : (a b : ℕ) → r ≡ says 5 a b → ((h : ℕ) (codes : List ℕ) → Sorts (record { night = n; steps = h; codes = codes }) → a ≤ h) × ((codes : List ℕ) × Sorts (record { night = n; steps = a; codes = codes }))
+  call-limit-least a b e = (least, (some .codes, subst (λ (h : ℕ). Sorts (record { night = n; steps = h; codes = some .codes })) (le-antisymm (some .within) (least (some .steps) (some .codes) (some .sorts))) (some .sorts)))
+    where
+      told-a : Least (Sortable n) a
+      told-a = call-limit a b .0 e .2
+
+      some : Sortable n a
+      some = told-a .holds
+
+      least : (h : ℕ) (codes : List ℕ) → Sorts (record { night = n; steps = h; codes = codes }) → a ≤ h
+      least h codes sorts = told-a .least h (record { steps = h; codes = codes; within = le-refl h; sorts = sorts })
+
+  -- room is refused exactly if the derived plan overfills a track: A is the first step that does, B what it finds there
+  pub call-room : (a b : ℕ) → (r ≡ says 6 a b) ↔ (DeriveGiven limits n limit (length before) × Sortable n limit × Least (OverfullStep (derivedPlan n)) a × (b ≡ pullSize (derivedPlan n) a))
+  call-room a b =
+      let exactly = derive-room-exactly limits n limit (length before) a b in
+      (λ e. exactly .0 (sym (promise .answer) ∙ e), λ h. promise .answer ∙ exactly .1 h)
 
   -- a refused call writes nothing
   pub call-refused : (r .number ≡ 0 → ⊥) → after ≡ before

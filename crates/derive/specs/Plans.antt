@@ -12,7 +12,7 @@ use Rattle.yard.specs.Derived.{stepsNeeded, derivedCodes, derivedPlan}
 use Rattle.yard.specs.Answers.{says, test, verdict, written, limitTest, roomTest}
 use Rattle.yard.specs.Calls.{deriveTests}
 use Rattle.yard.specs.Demands.{Within, Listed}
-use Rattle.sorting.specs.Sums.{named, setBelow, firstAbove}
+use Rattle.sorting.specs.Sums.{pullOf, setBelow, firstAbove}
 
 abbrev pub nightOf : List ℕ → List ℕ → ℕ → ℕ → Night
 nightOf lengths inbound tracks room = record { lengths = lengths; inbound = inbound; tracks = tracks; room = room }
@@ -29,15 +29,11 @@ pub record Given (n : Night) (limit size : ℕ) : Type 0 where
   pub lists : Listed (n .lengths) (n .inbound)
   pub buffer : length (n .inbound) ≤ size
 
--- the items of a list are below k
-pub record Below (k : ℕ) (l : List ℕ) : Type 0 where
-  pub item : (i : ℕ) → i < length l → getD l i 0 < k
-
 -- 6, or else the steps and the passes, worked out from the codes
 abbrev pub settled : ℕ → ℕ → List ℕ → Answer
 settled room steps codes =
     let full = firstAbove room codes steps in
-    verdict (test (leb steps full) (says 6 full (named codes full)) ∷ []) (says 0 steps (length codes + setBelow steps codes))
+    verdict (test (leb steps full) (says 6 full (pullOf codes full)) ∷ []) (says 0 steps (length codes + setBelow steps codes))
 
 pub record Settles (room steps : ℕ) (derived before : List ℕ) (r : Answer) (after : List ℕ) : Type 0 where
   pub answer : r ≡ settled room steps derived

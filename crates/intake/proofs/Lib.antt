@@ -1,6 +1,4 @@
 -- The laws on which the proofs of this crate rest, and in `Passed` those that its callers need.
 pub mod Tests
-pub mod Places
-pub mod Marks
-pub mod Above
+pub mod Wide
 pub mod Passed

@@ -14,14 +14,14 @@ use Rattle.yard.specs.Words.{count}
 use Rattle.yard.specs.Night.{Night, cars}
 use Rattle.yard.specs.Answers.{says, verdict, countTest}
 use Rattle.yard.specs.Calls.{countTests, nightTests}
-use Rattle.yard.specs.Demands.{Listed}
+use Rattle.yard.specs.Demands.{InLimits, Listed}
 use Rattle.yard.proofs.Bools.{not-so}
 use Rattle.yard.proofs.Lists.{count-upFrom-in, upFrom-bounds}
 use Rattle.yard.proofs.Verdict.{Passed, verdict-passes}
-use Rattle.yard.proofs.Tests.{Within, counts-passed}
+use Rattle.yard.proofs.Tests.{counts-passed}
 use Rattle.yard.proofs.Formed.{count-at, lists-passed}
 use Rattle.intake.specs.Tests.{listTests}
-use Rattle.intake.proofs.Tests.{between}
+use Rattle.scan.proofs.Range.{between}
 
 -- an answer that only tests is 0 exactly if every test is passed
 tests-passed : (tests : List Answer) → (verdict tests (says 0 0 0) .number ≡ 0) ↔ Passed tests
@@ -32,7 +32,7 @@ tests-passed tests =
 pub count-refused : (a low high x : ℕ) → ((low ≤ x) × (x ≤ high) → ⊥) → countTest a low high x ≡ says 1 a 0
 count-refused a low high x out = rw (not-so (leb low x && leb x high) (λ t. out (between low x high t)))
 
-pub counts-within : (L : Limits) (n m W C h : ℕ) → (verdict (countTests L n m W C h) (says 0 0 0) .number ≡ 0) ↔ Within L n m W C h
+pub counts-within : (L : Limits) (n m W C h : ℕ) → (verdict (countTests L n m W C h) (says 0 0 0) .number ≡ 0) ↔ InLimits L n m W C h
 counts-within L n m W C h =
     let tests = tests-passed (countTests L n m W C h) in
     let counts = counts-passed L n m W C h in

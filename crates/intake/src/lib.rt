@@ -3,27 +3,13 @@ use yard::Answer;
 ghost use mathlib.Core.Path.{_≡_};
 ghost use mathlib.Core.Bool.{_&&_};
 ghost use mathlib.Core.List.{_∷_, [], _++_};
-ghost use Prim.Native.Nat.{_^_, max, _≤_};
+ghost use Prim.Native.Nat.{_^_, _≤_};
 ghost use lib.Dec.{leb};
 ghost use lib.ListN.{length, take, drop};
 ghost use Rattle.yard.specs.Limits.{limits};
-ghost use Rattle.yard.specs.Words.{most};
-ghost use Rattle.yard.specs.Night.{sum};
 ghost use Rattle.yard.specs.Answers.{says, test, verdict, countTest, trainTest, sumTest, inboundTest, listTest, codeTest};
 ghost use Rattle.yard.specs.Calls.{countTests};
 ghost use Rattle.intake.specs.Tests.{listTests};
-ghost use Rattle.intake.specs.Marks.{marked, markable, unfit, Marks};
-
-// The limits of document 01.
-const CARS: usize = 512;
-
-const TRAINS: usize = 64;
-
-const TRACKS: usize = 8;
-
-const ROOM: usize = 512;
-
-const STEPS: usize = 8;
 
 // A number and its two details.
 pub fn answer(number: usize, a: usize, b: usize) -> Answer
@@ -68,70 +54,29 @@ pub fn in_range(a: usize, low: usize, high: usize, x: usize) -> Answer
 pub fn counts(cars: usize, trains: usize, tracks: usize, room: usize, steps: usize) -> Answer
     ensures { λ r. ⌜ r ≡ verdict (countTests limits cars trains tracks room steps) (says 0 0 0) ⌝ }
 {
-    let from_room = unless(in_range(4, 1, ROOM, room), in_range(5, 0, STEPS, steps));
-    let from_tracks = unless(in_range(3, 1, TRACKS, tracks), from_room);
-    let from_trains = unless(in_range(2, 1, TRAINS, trains), from_tracks);
-    unless(in_range(1, 1, CARS, cars), from_trains)
+    let from_room = unless(
+        in_range(4, 1, yard::ROOM, room),
+        in_range(5, 0, yard::STEPS, steps),
+    );
+    let from_tracks = unless(in_range(3, 1, yard::TRACKS, tracks), from_room);
+    let from_trains = unless(in_range(2, 1, yard::TRAINS, trains), from_tracks);
+    unless(in_range(1, 1, yard::CARS, cars), from_trains)
 }
 
 // 2: no train of length 0, or else the first such train.
 pub fn trains(lengths: &[u16]) -> Answer
     ensures { λ r. ⌜ r ≡ trainTest (now (lengths .entry)) ⌝ }
 {
-    for t in 0..lengths.len() {
-        if lengths[t] == 0 {
-            return answer(2, t + 1, 0);
-        }
-    }
-    answer(0, 0, 0)
-}
-
-// The cars of all trains together.
-pub fn total(lengths: &[u16]) -> usize
-    requires { ⌜ length (now lengths) ≤ 4096 ⌝ }
-    ensures { λ r. ⌜ r ≡ sum (now (lengths .entry)) ⌝ }
-{
-    let mut cars: usize = 0;
-    for i in 0..lengths.len() {
-        cars += lengths[i] as usize;
-    }
-    cars
+    let empty = scan::first_empty(lengths);
+    test(lengths.len() < empty, 2, empty)
 }
 
 // 2: lengths that add up to n, or else refused with 0.
 pub fn sum(lengths: &[u16], n: usize) -> Answer
-    requires { ⌜ length (now lengths) ≤ 4096 ⌝ }
+    requires { ⌜ length (now lengths) ≤ limits .trains ⌝ }
     ensures { λ r. ⌜ r ≡ sumTest (now (lengths .entry)) n ⌝ }
 {
-    test(total(lengths) == n, 2, 0)
-}
-
-// The car has been marked.
-fn seen(marks: &[u8], car: usize) -> bool
-    requires { ⌜ (1 ≤ car) × (car ≤ markable (now marks)) ⌝ }
-    ensures { λ r. ⌜ r ≡ marked (now (marks .entry)) car ⌝ }
-{
-    marks[car - 1] == 1
-}
-
-// Marks the car, and no other.
-fn mark(marks: &mut [u8], car: usize)
-    requires { ⌜ (1 ≤ car) × (car ≤ markable (now marks)) ⌝ }
-    ensures { λ _. ⌜ Marks (now (marks .entry)) car (now (marks .exit)) ⌝ }
-{
-    marks[car - 1] = 1;
-}
-
-// Whether a car is out of range or met before.
-fn unfit(marks: &[u8], car: usize, n: usize) -> bool
-    requires { ⌜ n ≤ markable (now marks) ⌝ }
-    ensures { λ r. ⌜ r ≡ unfit (now (marks .entry)) car n ⌝ }
-{
-    if within(1, car, n) {
-        seen(marks, car)
-    } else {
-        true
-    }
+    test(scan::total(lengths) == n, 2, 0)
 }
 
 // 3: each car once, or else the first place with a number out of range or met before.
@@ -139,15 +84,8 @@ pub fn inbound(inbound: &[u16]) -> Answer
     requires { ⌜ length (now inbound) ≤ limits .cars ⌝ }
     ensures { λ r. ⌜ r ≡ inboundTest (now (inbound .entry)) ⌝ }
 {
-    let mut marks = [0u8; CARS];
-    for i in 0..inbound.len() {
-        let car = inbound[i] as usize;
-        if unfit(&marks, car, inbound.len()) {
-            return answer(3, i + 1, 0);
-        }
-        mark(&mut marks, car);
-    }
-    answer(0, 0, 0)
+    let bad = marks::first_bad(inbound);
+    test(inbound.len() < bad, 3, bad)
 }
 
 // 4: a list or a buffer of the right length, or else refused with a.
@@ -175,45 +113,15 @@ pub fn copy(items: &[u16], count: usize, out: &mut [u16])
     }
 }
 
-// The larger of two codes.
-fn larger(a: u16, b: u16) -> u16
-    ensures { λ r. ⌜ r ≡ max a b ⌝ }
-{
-    if a < b { b } else { a }
-}
-
-// The largest code, 0 where there is none.
-fn largest(codes: &[u16]) -> u16
-    ensures { λ r. ⌜ r ≡ most (λ code. code) (now (codes .entry)) ⌝ }
-{
-    let mut most: u16 = 0;
-    for i in 0..codes.len() {
-        most = larger(most, codes[i]);
-    }
-    most
-}
-
-// 7, by a search for the first car with a code of 2 to the steps or more.
-fn wide_code(codes: &[u16], steps: usize) -> Answer
-    requires { ⌜ steps ≤ 16 ⌝ }
+// 7: each code below 2 to the steps, or else the first car with another. The largest code tells at once that there is none to look for.
+pub fn codes(codes: &[u16], steps: usize) -> Answer
+    requires { ⌜ steps ≤ limits .steps ⌝ }
     ensures { λ r. ⌜ r ≡ codeTest steps (now (codes .entry)) ⌝ }
 {
     let bound = power(steps);
-    for i in 0..codes.len() {
-        if bound <= codes[i] as usize {
-            return answer(7, i + 1, 0);
-        }
-    }
-    answer(0, 0, 0)
-}
-
-// 7: each code below 2 to the steps, or else the first car with another. The largest code tells at once that there is none to look for.
-pub fn codes(codes: &[u16], steps: usize) -> Answer
-    requires { ⌜ steps ≤ 16 ⌝ }
-    ensures { λ r. ⌜ r ≡ codeTest steps (now (codes .entry)) ⌝ }
-{
-    if power(steps) <= largest(codes) as usize {
-        return wide_code(codes, steps);
+    if bound <= scan::largest(codes) as usize {
+        let wide = scan::first_over(codes, bound);
+        return test(codes.len() < wide, 7, wide);
     }
     answer(0, 0, 0)
 }

@@ -12,17 +12,17 @@ use Rattle.yard.specs.Night.{cars, planOf}
 use Rattle.yard.specs.Replay.{passes, trackOf, placeOf}
 use Rattle.yard.specs.Answers.{says, verdict, written, countTest, listTest, codeTest, earlyTest, roomTest}
 use Rattle.yard.specs.Calls.{countTests, replayAnswer, carTracks, carPlaces, Replays}
-use Rattle.yard.specs.Demands.{Listed, NeverEarly}
+use Rattle.yard.specs.Demands.{InLimits, Listed, NeverEarly}
 use Rattle.yard.proofs.Verdict.{passed-append, verdict-passes, stops, goes-on, stops-all, goes-on-all, written-accepted, written-refused}
 use Rattle.yard.proofs.Tests.{count-passed, list-passed}
-use Rattle.yard.proofs.Tests as Tests
 use Rattle.yard.proofs.Plans.{early-passed, range-once}
 use Rattle.yard.proofs.DerivedPlan.{length-by-car}
 use Rattle.yard.proofs.PlanYard.{track-target, place-target}
 use Rattle.yard.proofs.EarlySearch.{early-test}
 use Rattle.sorting.specs.Sums.{setBelow}
-use Rattle.sorting.specs.Stages.{sortedTo, trackBy, placeBy}
-use Rattle.sorting.proofs.Keys.{sortedTo-is}
+use Rattle.order.specs.Order.{sortedTo}
+use Rattle.stage.specs.Stages.{trackBy, placeBy}
+use Rattle.order.proofs.Keys.{sortedTo-is}
 use Rattle.plans.specs.Closed.{givenTests, placedTests, soundTests, Counted, Placeable, Placed}
 use Rattle.plans.proofs.Stages.{by-car-same}
 use Rattle.plans.proofs.Replayed.{sound-is, passes-is}
@@ -65,7 +65,7 @@ module _ (lengths inbound codes : List ℕ) (W C h stage : ℕ) (on at : List �
       record { answer = e; tracks = sym (written-refused a (carTracks p stage) on no); places = sym (written-refused a (carPlaces p stage) at no) }
 
   -- what the lists and buffers have passed
-  given-placeable : Tests.Within limits (length inbound) (length lengths) W C h → stage ≤ h → (r : Answer) → r ≡ verdict (placedTests lengths inbound codes (length on) (length at)) (says 0 0 0) → r .number ≡ 0 → Placeable lengths inbound codes W h stage on at
+  given-placeable : InLimits limits (length inbound) (length lengths) W C h → stage ≤ h → (r : Answer) → r ≡ verdict (placedTests lengths inbound codes (length on) (length at)) (says 0 0 0) → r .number ≡ 0 → Placeable lengths inbound codes W h stage on at
   given-placeable w upto r is z =
       let all = verdict-passes (placedTests lengths inbound codes (length on) (length at)) (says 0 0 0) .0 (sym (ap (λ (v : Answer). v .number) is) ∙ z) .0 in
       let parts = passed-append (givenTests lengths inbound codes) (listTest 4 (leb (length inbound) (length on)) ∷ listTest 5 (leb (length inbound) (length at)) ∷ []) .0 all in
@@ -138,11 +138,11 @@ module _ (lengths inbound codes : List ℕ) (W C h stage : ℕ) (on at : List �
                 record {
                   answer = e;
                   tracks =
-                      stood .tracks ∙
+                      stood .tracks .listed ∙
                       (ap₂ (λ (l : List ℕ) (k : ℕ). l ++ drop k on) (tracks-are lengths inbound codes W C h (q .lists) (q .tracks .0) never stage (q .upto)) (sym (length-by-car (trackOf p stage) n)) ∙
                       sym (written-accepted a (carTracks p stage) on zero));
                   places =
-                      stood .places ∙
+                      stood .places .listed ∙
                       (ap₂ (λ (l : List ℕ) (k : ℕ). l ++ drop k at) (places-are lengths inbound codes W C h (q .lists) (q .tracks .0) never stage (q .upto)) (sym (length-by-car (placeOf p stage) n)) ∙
                       sym (written-accepted a (carPlaces p stage) at zero));
                 }

@@ -12,13 +12,12 @@ use Rattle.yard.specs.Night.{nightOf, planOf}
 use Rattle.yard.specs.Replay.{passes, fullestPull}
 use Rattle.yard.specs.Answers.{says, verdict, listTest, codeTest, earlyTest, roomTest, orderTest}
 use Rattle.yard.specs.Calls.{countTests, nightTests, checkAnswer, Checks}
-use Rattle.yard.specs.Demands.{Within, Listed, CodesFormed, NeverEarly}
+use Rattle.yard.specs.Demands.{InLimits, Within, Listed, CodesFormed, NeverEarly}
 use Rattle.yard.proofs.Verdict.{passed-append, verdict-passes, verdict-append, stops-all, goes-on-all}
 use Rattle.yard.proofs.Tests.{list-passed}
-use Rattle.yard.proofs.Tests as Tests
 use Rattle.yard.proofs.Formed.{lists-passed}
 use Rattle.intake.proofs.Passed.{counts-within}
-use Rattle.sorting.specs.Sums.{setBelow, mostNamed}
+use Rattle.sorting.specs.Sums.{setBelow, fullestOf}
 use Rattle.plans.specs.Closed.{givenTests, soundTests, pairTest, Counted}
 use Rattle.plans.proofs.Replayed.{sound-is, order-is}
 
@@ -27,7 +26,7 @@ module _ (lengths inbound codes : List ℕ) (W C h : ℕ) where
   counts = countTests limits (length inbound) (length lengths) W C h
 
   -- what is known once the counts have passed, and once the lists have
-  pub counted-within : (r : Answer) → r ≡ verdict (countTests limits (length inbound) (length lengths) W C h) (says 0 0 0) → r .number ≡ 0 → Tests.Within limits (length inbound) (length lengths) W C h
+  pub counted-within : (r : Answer) → r ≡ verdict (countTests limits (length inbound) (length lengths) W C h) (says 0 0 0) → r .number ≡ 0 → InLimits limits (length inbound) (length lengths) W C h
   counted-within r is z = counts-within limits (length inbound) (length lengths) W C h .0 (sym (ap (λ (v : Answer). v .number) is) ∙ z)
 
   pub given-listed : (r : Answer) → r ≡ verdict (givenTests lengths inbound codes) (says 0 0 0) → r .number ≡ 0 → Listed lengths inbound × (length codes ≡ length inbound)
@@ -36,7 +35,7 @@ module _ (lengths inbound codes : List ℕ) (W C h : ℕ) where
       let parts = passed-append (nightTests (nightOf lengths inbound 0 0)) (listTest 3 (eqb (length codes) (length inbound)) ∷ []) .0 all in
       (lists-passed (nightOf lengths inbound 0 0) .0 (parts .0), eqb-true (length codes) (length inbound) (list-passed 3 (eqb (length codes) (length inbound)) .0 (parts .1 .0)))
 
-  pub counted : Tests.Within limits (length inbound) (length lengths) W C h → length codes ≡ length inbound → Counted lengths inbound codes
+  pub counted : InLimits limits (length inbound) (length lengths) W C h → length codes ≡ length inbound → Counted lengths inbound codes
   counted w e = record { trains = w .trains; cars = w .cars; each = e }
 
   -- ---- check
@@ -49,10 +48,10 @@ module _ (lengths inbound codes : List ℕ) (W C h : ℕ) where
   done = says 0 (passes (planOf lengths inbound W C h codes) h) (fullestPull (planOf lengths inbound W C h codes))
 
   closed-done : Answer
-  closed-done = says 0 (length codes + setBelow h codes) (mostNamed codes h)
+  closed-done = says 0 (length codes + setBelow h codes) (fullestOf codes h)
 
   -- the tests from 7 on, worked out from the lists
-  closed-check : Tests.Within limits (length inbound) (length lengths) W C h → Listed lengths inbound → length codes ≡ length inbound → verdict (soundTests W C h codes ++ (pairTest lengths inbound codes ∷ [])) closed-done ≡ verdict plan-tests done
+  closed-check : InLimits limits (length inbound) (length lengths) W C h → Listed lengths inbound → length codes ≡ length inbound → verdict (soundTests W C h codes ++ (pairTest lengths inbound codes ∷ [])) closed-done ≡ verdict plan-tests done
   unfolding plan-tests done closed-done
   closed-check w f e =
       let p = planOf lengths inbound W C h codes in
@@ -84,6 +83,6 @@ module _ (lengths inbound codes : List ℕ) (W C h : ℕ) where
           pub check-sound : (r₃ .number ≡ 0 → ⊥) → Checks (planOf lengths inbound W C h codes) r₃
           check-sound n = rest r₃ (stops-all (soundTests W C h codes) (pairTest lengths inbound codes ∷ []) closed-done r₃ is₃ n)
 
-          pub check-ordered : r₃ .number ≡ 0 → (r : Answer) → r ≡ verdict (pairTest lengths inbound codes ∷ []) (says 0 (length codes + setBelow h codes) (mostNamed codes h)) → Checks (planOf lengths inbound W C h codes) r
+          pub check-ordered : r₃ .number ≡ 0 → (r : Answer) → r ≡ verdict (pairTest lengths inbound codes ∷ []) (says 0 (length codes + setBelow h codes) (fullestOf codes h)) → Checks (planOf lengths inbound W C h codes) r
           unfolding closed-done
           check-ordered z₃ r is = rest r (goes-on-all (soundTests W C h codes) (pairTest lengths inbound codes ∷ []) closed-done r₃ is₃ r z₃ is)

@@ -1,20 +1,16 @@
 -- The tests worked out from the lists are those of the replay.
-use mathlib.Core.Path.{_≡_, refl, sym, ap, ap₂, _∙_, subst}
-use mathlib.Core.Logic.{_⊎_, ⊎-elim}
-use mathlib.Core.Bool.{Bool, true, false, cond, not, _&&_}
-use mathlib.Core.List.{List, [], _∷_, _++_, map}
-use Prim.Native.Nat.{ℕ, suc, _+_, _-_, _≤_, _<_}
+use mathlib.Core.Path.{_≡_, refl, sym, ap, _∙_}
+use mathlib.Core.Bool.{Bool, true, false, cond}
+use mathlib.Core.List.{List, map}
+use Prim.Native.Nat.{ℕ, _-_}
 use native.Mathlib.Nat.{sub-zero}
-use native.Mathlib.Omega.{arith}
-use lib.Dec.{leb, eqb}
-use lib.ListN.{length, take}
-use lib.Seq.{take-at}
-use Rattle.yard.specs.declared.Answer.{Answer}
+use lib.Dec.{leb}
+use lib.ListN.{take}
 use Rattle.yard.specs.Night.{cars}
 use Rattle.yard.specs.Answers.{says, test}
-use Rattle.yard.proofs.DerivedPlan.{length-by-car}
 use Rattle.yard.specs.Waiting.{firstWaiting, lowestWaiting}
-use Rattle.sorting.specs.declared.early.Early.{Early}
+use Rattle.scan.specs.Front.{Front}
+use Rattle.scan.proofs.Front.{front-items}
 use Rattle.sorting.specs.declared.early.Early.the-variants.{At, Never}
 use Rattle.sorting.specs.Early.{earlyFound}
 use Rattle.plans.specs.Closed.{earlyAnswer, waitTest}
@@ -31,6 +27,6 @@ told-early W h codes = go (leb h (firstWaiting W h codes))
     go false = refl
 
 -- the part of an array that a list by car fills
-pub front : (f : ℕ → ℕ) (n m : ℕ) (rest now : List ℕ) → n ≡ m → now ≡ map f (cars m) ++ rest → take (n - 0) now ≡ map f (cars n)
-front f n m rest now e is =
-    ap₂ (λ (k : ℕ) (l : List ℕ). take k l) (sub-zero n) (is ∙ ap (λ (k : ℕ). map f (cars k) ++ rest) (sym e)) ∙ take-at (map f (cars n)) rest n (length-by-car f n)
+pub part-front : (f : ℕ → ℕ) {n m : ℕ} {before now : List ℕ} → n ≡ m → Front (map f (cars m)) before m now → take (n - 0) now ≡ map f (cars n)
+part-front f {n} {m} {before} {now} e front =
+    ap (λ (k : ℕ). take k now) (sub-zero n ∙ e) ∙ (front-items front ∙ ap (λ (k : ℕ). map f (cars k)) (sym e))

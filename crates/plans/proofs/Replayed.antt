@@ -23,9 +23,9 @@ use Rattle.yard.proofs.Building.{order-ruled}
 use Rattle.yard.proofs.DerivedPlan.{by-car}
 use Rattle.yard.proofs.PlanYard.{passes-codes, pullSize-codes}
 use Rattle.yard.proofs.EarlySearch.{early-test}
-use Rattle.yard.proofs.Demands.{codes-passed}
-use Rattle.sorting.specs.Sums.{named, setBelow, firstAbove, mostNamed}
-use Rattle.sorting.specs.Pairs.{unruledAt}
+use Rattle.yard.proofs.Rights.{codes-passed}
+use Rattle.sorting.specs.Sums.{pullOf, setBelow, firstAbove, fullestOf}
+use Rattle.pairs.specs.Pairs.{unruledAt}
 use Rattle.plans.specs.Closed.{waitTest, fullTest, soundTests, firstPair, pairTest}
 
 -- verdicts that agree behind a test agree
@@ -48,9 +48,9 @@ module _ (p : Plan) (f : Listed (p .night .lengths) (p .night .inbound)) (pos : 
     room-full =
         ap (λ (k : ℕ). test (leb h k) (says 6 k (pullSize p k))) found ∙
         ⊎-elim
-        (λ e. ap (λ (b : Bool). test b (says 6 a (pullSize p a))) (le-leb h a (omega arith)) ∙ sym (ap (λ (b : Bool). test b (says 6 a (named (p .codes) a))) (le-leb h a (omega arith))))
+        (λ e. ap (λ (b : Bool). test b (says 6 a (pullSize p a))) (le-leb h a (omega arith)) ∙ sym (ap (λ (b : Bool). test b (says 6 a (pullOf (p .codes) a))) (le-leb h a (omega arith))))
         (λ l. ap (λ (n : ℕ). test (leb h a) (says 6 a n)) (pullSize-codes p f formed never a l))
-        (eq-or-lt-of-le (within (first-le (λ k. ltb (p .night .room) (named (p .codes) k)) h 0)))
+        (eq-or-lt-of-le (within (first-le (λ k. ltb (p .night .room) (pullOf (p .codes) k)) h 0)))
       where
         h : ℕ
         h = p .steps
@@ -59,7 +59,7 @@ module _ (p : Plan) (f : Listed (p .night .lengths) (p .night .inbound)) (pos : 
         a = firstAbove (p .night .room) (p .codes) h
 
         found : firstOverfull p ≡ a
-        found = first-same (λ k. ltb (p .night .room) (pullSize p k)) (λ k. ltb (p .night .room) (named (p .codes) k)) h 0 (λ k l m. ap (λ (n : ℕ). ltb (p .night .room) n) (pullSize-codes p f formed never k (omega arith)))
+        found = first-same (λ k. ltb (p .night .room) (pullSize p k)) (λ k. ltb (p .night .room) (pullOf (p .codes) k)) h 0 (λ k l m. ap (λ (n : ℕ). ltb (p .night .room) n) (pullSize-codes p f formed never k (omega arith)))
 
         within : a ≤ 0 + h → a ≤ h
         within l = omega arith
@@ -67,9 +67,9 @@ module _ (p : Plan) (f : Listed (p .night .lengths) (p .night .inbound)) (pos : 
     pub passes-is : (s : ℕ) → s ≤ p .steps → length (p .codes) + setBelow s (p .codes) ≡ passes p s
     passes-is s l = ap (λ (n : ℕ). n + setBelow s (p .codes)) each ∙ sym (passes-codes p f formed never s l)
 
-    fullest-is : mostNamed (p .codes) (p .steps) ≡ fullestPull p
+    fullest-is : fullestOf (p .codes) (p .steps) ≡ fullestPull p
     unfolding fullestPull
-    fullest-is = sym (most-same (pullSize p) (named (p .codes)) (upFrom 0 (p .steps)) (λ k m. pullSize-codes p f formed never k (omega (arith, upFrom-bounds k 0 (p .steps) m))))
+    fullest-is = sym (most-same (pullSize p) (pullOf (p .codes)) (upFrom 0 (p .steps)) (λ k m. pullSize-codes p f formed never k (omega (arith, upFrom-bounds k 0 (p .steps) m))))
 
     -- 9: a pair that breaks the rule
     pair-is : first (unruled p) (length (p .night .inbound) - 1) 1 ≡ firstPair (p .night .lengths) (p .night .inbound) (p .codes)
@@ -94,7 +94,7 @@ module _ (p : Plan) (f : Listed (p .night .lengths) (p .night .inbound)) (pos : 
         (order-ruled p f formed never some ∙ ap₂ (λ (n j : ℕ). leb n j) (sym each) pair-is)
         pair-is
 
-    pub order-is : 1 ≤ length (p .night .inbound) → verdict (pairTest (p .night .lengths) (p .night .inbound) (p .codes) ∷ []) (says 0 (length (p .codes) + setBelow (p .steps) (p .codes)) (mostNamed (p .codes) (p .steps))) ≡ verdict (orderTest p ∷ []) (says 0 (passes p (p .steps)) (fullestPull p))
+    pub order-is : 1 ≤ length (p .night .inbound) → verdict (pairTest (p .night .lengths) (p .night .inbound) (p .codes) ∷ []) (says 0 (length (p .codes) + setBelow (p .steps) (p .codes)) (fullestOf (p .codes) (p .steps))) ≡ verdict (orderTest p ∷ []) (says 0 (passes p (p .steps)) (fullestPull p))
     order-is some = ap₂ (λ (t d : Answer). verdict (t ∷ []) d) (sym (pair-test some)) (ap₂ (λ (a b : ℕ). says 0 a b) (passes-is (p .steps) (le-refl (p .steps))) fullest-is)
 
   -- 7, 8 and 6, and what follows

@@ -2,11 +2,12 @@
 use mathlib.Core.Path.{_≡_, refl, sym, ap, ap₂, _∙_, subst}
 use mathlib.Core.Bool.{Bool, true, false, cond}
 use mathlib.Core.List.{List, [], _∷_, _++_, map}
-use Prim.Native.Nat.{ℕ, _+_, _-_, _%_, _<_}
+use Prim.Native.Nat.{ℕ, _+_, _-_, _%_, _≤_, _<_}
 use native.Mathlib.Nat.{mod-lt}
 use native.Mathlib.Omega.{arith}
 use lib.Dec.{ltb, eqb}
-use lib.ListN.{length, getD, drop, length-append, List·getD-append}
+use lib.ListN.{length, getD, take, length-append}
+use lib.Seq.{take-at}
 use Rattle.yard.specs.Words.{count, place}
 use Rattle.yard.specs.Night.{cars, trainOf, itemOf}
 use Rattle.yard.specs.Replay.{nextStep}
@@ -14,10 +15,13 @@ use Rattle.yard.specs.Demands.{Within, EachOnce}
 use Rattle.yard.proofs.Lists.{count-head, count-tail, upFrom-bounds, keep-same}
 use Rattle.yard.proofs.Replay.{sorted-count}
 use Rattle.yard.proofs.Building.{train-cars}
-use Rattle.yard.proofs.DerivedPlan.{by-car, length-by-car}
-use Rattle.sorting.specs.Stages.{CarsOf, sortedTo, trackBy, placeBy, Standable}
-use Rattle.sorting.proofs.Filling.{item-within}
-use Rattle.sorting.proofs.Keys.{sortedTo-is, sortedTo-length}
+use Rattle.yard.proofs.DerivedPlan.{by-car}
+use Rattle.scan.specs.Front.{Front}
+use Rattle.scan.proofs.Front.{front-item, front-fits}
+use Rattle.order.specs.Order.{CarsOf, sortedTo, Keyed}
+use Rattle.stage.specs.Stages.{trackBy, placeBy, allTracks, Standable}
+use Rattle.trains.proofs.Filling.{item-within}
+use Rattle.order.proofs.Keys.{sortedTo-is, sortedTo-length}
 use Rattle.plans.specs.Closed.{Placeable, Placed}
 
 map-same : (f g : ℕ → ℕ) (l : List ℕ) → ((x : ℕ) → 0 < count x l → f x ≡ g x) → map f l ≡ map g l
@@ -35,23 +39,37 @@ sortedTo-once codes order s once car =
     (sorted-count (λ c. itemOf codes c) order s car ∙ (once car ∙ ap (λ (n : ℕ). count car (cars n)) (sym (sortedTo-length codes order s))))
 
 module _ (lengths inbound codes : List ℕ) (W h stage : ℕ) (on at : List ℕ) (p : Placeable lengths inbound codes W h stage on at) where
-  pub cars-of : CarsOf (length codes) inbound
+  cars-of : CarsOf (length codes) inbound
   cars-of i m = subst (λ (n : ℕ). Within 1 n (getD inbound i 0)) (sym (p .counted .each)) (item-within inbound (p .lists .once) i m)
 
-  -- a car's track is one of 16 sorting tracks and 64 destinations
-  track-below : (car : ℕ) → Within 1 (length inbound) car → trackBy lengths codes W h stage car < 80
+  pub keyed : Keyed inbound codes stage
+  keyed = record { stages = omega (arith, p .upto, p .steps); cars = cars-of; few = p .counted .cars .1 }
+
+  -- the front of an array that the order fills
+  module _ {sorted : List ℕ} (is : sorted ≡ sortedTo codes inbound stage) (rest : List ℕ) where
+    long : length sorted ≡ length inbound
+    long = ap length is ∙ sortedTo-length codes inbound stage
+
+    pub order-within : length inbound ≤ length (sorted ++ rest)
+    order-within = omega (arith, long, length-append sorted rest)
+
+    pub order-part : take (length inbound - 0) (sorted ++ rest) ≡ sortedTo codes inbound stage
+    order-part = take-at sorted rest (length inbound - 0) (omega (arith, long)) ∙ is
+
+  -- a car's track is a sorting track or a destination
+  track-below : (car : ℕ) → Within 1 (length inbound) car → trackBy lengths codes W h stage car < allTracks
   track-below car w = go (ltb next h)
     where
       next : ℕ
       next = nextStep h (itemOf codes car) stage
 
-      go : (b : Bool) → cond b (next % W) (W + trainOf lengths car - 1) < 80
+      go : (b : Bool) → cond b (next % W) (W + trainOf lengths car - 1) < allTracks
       go true = omega (arith, mod-lt next (p .tracks .0), p .tracks .1)
       go false =
           let r = train-cars lengths inbound (p .lists) car w in
           omega (arith, r .1, r .2, p .counted .trains .1, p .tracks .0, p .tracks .1)
 
-  module _ (order on₁ : List ℕ) (sorts : order ≡ sortedTo codes inbound stage) (fills : on₁ ≡ map (trackBy lengths codes W h stage) (cars (length codes)) ++ drop (length codes) on) where
+  module _ (order on₁ : List ℕ) (sorts : order ≡ sortedTo codes inbound stage) (fills : Front (map (trackBy lengths codes W h stage) (cars (length codes))) on (length codes) on₁) where
     same : length order ≡ length inbound
     same = ap length sorts ∙ sortedTo-length codes inbound stage
 
@@ -61,33 +79,30 @@ module _ (lengths inbound codes : List ℕ) (W h stage : ℕ) (on at : List ℕ)
     -- the item of a car in the list of tracks is its track
     item-track : (car : ℕ) → Within 1 (length inbound) car → itemOf on₁ car ≡ trackBy lengths codes W h stage car
     item-track car w =
-        let track = trackBy lengths codes W h stage in
-        let n = length codes in
-        ap (λ (l : List ℕ). itemOf l car) fills ∙
-        (List·getD-append (map track (cars n)) (drop n on) 0 (car - 1) (omega (arith, length-by-car track n, w .0, w .1, p .counted .each)) ∙ by-car track n car (w .0, omega (arith, w .1, p .counted .each)))
+        let v : Within 1 (length codes) car = (w .0, omega (arith, w .1, p .counted .each)) in
+        front-item (car - 1) (omega (arith, v .0, v .1)) fills ∙ by-car (trackBy lengths codes W h stage) (length codes) car v
 
     pub standable : Standable order on₁ at
     standable =
-        let track = trackBy lengths codes W h stage in
-        let n = length codes in
         record {
           once = order-once;
           few = omega (arith, same, p .counted .cars .1);
-          given = omega (arith, same, p .counted .each, ap length fills, length-append (map track (cars n)) (drop n on), length-by-car track n);
+          given = omega (arith, same, p .counted .each, front-fits fills);
           track = λ car w. let v : Within 1 (length inbound) car = (w .0, omega (arith, w .1, same)) in omega (arith, item-track car v, track-below car v);
           room = omega (arith, same, p .roomAt);
         }
 
-    pub placed : (at₁ : List ℕ) → at₁ ≡ map (placeBy order (itemOf on₁)) (cars (length order)) ++ drop (length order) at → Placed lengths inbound codes W h stage on at on₁ at₁
-    placed at₁ is =
+    pub placed : {at₁ : List ℕ} → Front (map (placeBy order (itemOf on₁)) (cars (length order))) at (length order) at₁ →
+        Placed lengths inbound codes W h stage on at on₁ at₁
+    placed {at₁} is =
         let track = trackBy lengths codes W h stage in
         record {
-          tracks = fills ∙ ap (λ (k : ℕ). map track (cars k) ++ drop k on) (p .counted .each);
+          tracks = subst (λ (k : ℕ). Front (map track (cars k)) on k on₁) (p .counted .each) fills;
           places =
-              is ∙
-              (ap (λ (k : ℕ). map (placeBy order (itemOf on₁)) (cars k) ++ drop k at) same ∙
-              (ap (λ (l : List ℕ). l ++ drop (length inbound) at) (by-car-same (placeBy order (itemOf on₁)) (placeBy order track) (length inbound) place-same) ∙
-              ap (λ (o : List ℕ). map (placeBy o track) (cars (length inbound)) ++ drop (length inbound) at) sorts));
+              subst (λ (l : List ℕ). Front l at (length inbound) at₁)
+              (by-car-same (placeBy order (itemOf on₁)) (placeBy order track) (length inbound) place-same ∙
+              ap (λ (o : List ℕ). map (placeBy o track) (cars (length inbound))) sorts)
+              (subst (λ (k : ℕ). Front (map (placeBy order (itemOf on₁)) (cars k)) at k at₁) same is);
         }
       where
         among : (car : ℕ) → 0 < count car order → Within 1 (length inbound) car

@@ -22,7 +22,8 @@ use Rattle.yard.proofs.Early.{Kept, kept-of-gaps}
 use Rattle.yard.proofs.Plans.{usable-gaps}
 use Rattle.yard.specs.Waiting.{waits, lowestWaiting, someWaits, firstWaiting}
 use Rattle.codes.proofs.Gap.{usable-fewest}
-use Rattle.codes.specs.Wider.{OfEight, wider, firstWider}
+use Rattle.scan.specs.Front.{Under}
+use Rattle.codes.specs.Wider.{wider, firstWider}
 use Rattle.plans.specs.Closed.{waitTest}
 
 -- a car with a usable code waits for no later step on the track of this one
@@ -40,7 +41,7 @@ module _ (W h : ℕ) (codes : List ℕ) (pos : 0 < W) (few : h ≤ 8) (below : C
   code-below : (i : ℕ) → i < length codes → getD codes i 0 < 2 ^ h
   code-below i m = subst (λ (x : ℕ). x < 2 ^ h) (item-at codes i) (below (suc i) (omega arith, m))
 
-  pub of-eight : OfEight codes
+  pub of-eight : Under (2 ^ 8) codes
   of-eight i m = lt-of-lt-of-le (code-below i m) (pow-mono few)
 
   module _ (none : length codes ≤ firstWider W codes) where

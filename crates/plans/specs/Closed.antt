@@ -3,7 +3,7 @@ use Prim.Native.Nat.{ℕ, suc, _-_, _≤_}
 use mathlib.Core.Path.{_≡_}
 use mathlib.Core.List.{List, [], _∷_, _++_, map}
 use lib.Dec.{leb, eqb}
-use lib.ListN.{length, drop}
+use lib.ListN.{length}
 use Rattle.yard.specs.declared.Answer.{Answer}
 use Rattle.yard.specs.Limits.{limits}
 use Rattle.yard.specs.Words.{place, first}
@@ -12,11 +12,13 @@ use Rattle.yard.specs.Answers.{says, test, listTest, codeTest}
 use Rattle.yard.specs.Calls.{nightTests}
 use Rattle.yard.specs.Demands.{Within, Listed}
 use Rattle.yard.specs.Waiting.{firstWaiting, lowestWaiting}
+use Rattle.scan.specs.Front.{Front}
 use Rattle.sorting.specs.declared.early.Early.{Early}
 use Rattle.sorting.specs.declared.early.Early.the-variants.{At, Never}
-use Rattle.sorting.specs.Sums.{named, firstAbove}
-use Rattle.sorting.specs.Pairs.{unruledAt}
-use Rattle.sorting.specs.Stages.{sortedTo, trackBy, placeBy}
+use Rattle.sorting.specs.Sums.{pullOf, firstAbove}
+use Rattle.pairs.specs.Pairs.{unruledAt}
+use Rattle.order.specs.Order.{sortedTo}
+use Rattle.stage.specs.Stages.{trackBy, placeBy}
 
 -- 2, 3 and 4: the lists of a plan
 abbrev pub givenTests : List ℕ → List ℕ → List ℕ → List Answer
@@ -33,7 +35,7 @@ waitTest W h codes = test (leb h (firstWaiting W h codes)) (says 8 (lowestWaitin
 
 -- 6: the first step that more codes name than there is room for
 abbrev pub fullTest : ℕ → ℕ → List ℕ → Answer
-fullTest C h codes = test (leb h (firstAbove C codes h)) (says 6 (firstAbove C codes h) (named codes (firstAbove C codes h)))
+fullTest C h codes = test (leb h (firstAbove C codes h)) (says 6 (firstAbove C codes h) (pullOf codes (firstAbove C codes h)))
 
 -- 7, 8 and 6
 abbrev pub soundTests : ℕ → ℕ → ℕ → List ℕ → List Answer
@@ -62,13 +64,14 @@ placedTests lengths inbound codes on at =
 pub record Placeable (lengths inbound codes : List ℕ) (W h stage : ℕ) (on at : List ℕ) : Type 0 where
   pub counted : Counted lengths inbound codes
   pub lists : Listed lengths inbound
-  pub tracks : Within 1 16 W
+  pub tracks : Within 1 (limits .tracks) W
   pub upto : stage ≤ h
-  pub steps : h ≤ 8
+  pub steps : h ≤ limits .steps
   pub roomOn : length inbound ≤ length on
   pub roomAt : length inbound ≤ length at
 
 -- each car's track and place at a stage, as the order in which the cars then stand gives them, and the rest as it was
 pub record Placed (lengths inbound codes : List ℕ) (W h stage : ℕ) (on₀ at₀ on₁ at₁ : List ℕ) : Type 0 where
-  pub tracks : on₁ ≡ map (trackBy lengths codes W h stage) (cars (length inbound)) ++ drop (length inbound) on₀
-  pub places : at₁ ≡ map (placeBy (sortedTo codes inbound stage) (trackBy lengths codes W h stage)) (cars (length inbound)) ++ drop (length inbound) at₀
+  pub tracks : Front (map (trackBy lengths codes W h stage) (cars (length inbound))) on₀ (length inbound) on₁
+  pub places :
+      Front (map (placeBy (sortedTo codes inbound stage) (trackBy lengths codes W h stage)) (cars (length inbound))) at₀ (length inbound) at₁

@@ -11,7 +11,7 @@ ghost use Rattle.yard.specs.Answers.{says, verdict};
 ghost use Rattle.yard.specs.Calls.{Checks, Replays};
 ghost use Rattle.yard.specs.Demands.{Listed, CodesBelow};
 ghost use Rattle.sorting.specs.Early.{earlyFound};
-ghost use Rattle.sorting.specs.Sums.{setBelow, mostNamed};
+ghost use Rattle.sorting.specs.Sums.{setBelow, fullestOf};
 ghost use Rattle.plans.specs.Closed.{givenTests, earlyAnswer, waitTest, fullTest, soundTests, firstPair, pairTest, Counted, placedTests, Placeable, Placed};
 
 // 2, 3 and 4: the lists of a plan.
@@ -25,7 +25,7 @@ fn given(lengths: &[u16], inbound: &[u16], codes: &[u16]) -> Answer
 
 // 8: no car pulled early, or else the lowest car of the first such step.
 fn early(codes: &[u16], tracks: usize, steps: usize) -> Answer
-    requires { ⌜ (0 < tracks) × (steps ≤ 16) ⌝ }
+    requires { ⌜ (0 < tracks) × (steps ≤ limits .steps) ⌝ }
     ensures { λ r. ⌜ r ≡ earlyAnswer (earlyFound tracks steps (now (codes .entry))) ⌝ }
 {
     let found = sorting::early::first_early(codes, tracks, steps);
@@ -37,7 +37,7 @@ fn early(codes: &[u16], tracks: usize, steps: usize) -> Answer
 
 // 8 for codes below 2 to the steps: the table's word for each code comes first, and the search only where it does not do.
 fn kept(codes: &[u16], tracks: usize, steps: usize) -> Answer
-    requires { ⌜ (0 < tracks) × (steps ≤ 8) × CodesBelow steps (now codes) ⌝ }
+    requires { ⌜ (0 < tracks) × (steps ≤ limits .steps) × CodesBelow steps (now codes) ⌝ }
     ensures { λ r. ⌜ r ≡ waitTest tracks steps (now (codes .entry)) ⌝ }
 {
     if codes::first_wider(codes, tracks) < codes.len() {
@@ -48,7 +48,7 @@ fn kept(codes: &[u16], tracks: usize, steps: usize) -> Answer
 
 // 6: no track overfilled, or else the first such step and its cars.
 fn full(codes: &[u16], fullest: usize, room: usize, steps: usize) -> Answer
-    requires { ⌜ (steps ≤ 16) × (length (now codes) ≤ 4096) × (fullest ≡ mostNamed (now codes) steps) ⌝ }
+    requires { ⌜ (steps ≤ limits .steps) × (length (now codes) ≤ limits .cars) × (fullest ≡ fullestOf (now codes) steps) ⌝ }
     ensures { λ r. ⌜ r ≡ fullTest room steps (now (codes .entry)) ⌝ }
 {
     let step = sorting::first_above(codes, steps, room, fullest);
@@ -61,7 +61,7 @@ fn full(codes: &[u16], fullest: usize, room: usize, steps: usize) -> Answer
 
 // 7, 8 and 6: what the codes alone can break, with their fullest pull.
 fn sound(codes: &[u16], fullest: usize, tracks: usize, room: usize, steps: usize) -> Answer
-    requires { ⌜ (0 < tracks) × (steps ≤ 8) × (length (now codes) ≤ 4096) × (fullest ≡ mostNamed (now codes) steps) ⌝ }
+    requires { ⌜ (0 < tracks) × (steps ≤ limits .steps) × (length (now codes) ≤ limits .cars) × (fullest ≡ fullestOf (now codes) steps) ⌝ }
     ensures { λ r. ⌜ r ≡ verdict (soundTests tracks room steps (now (codes .entry))) (says 0 0 0) ⌝ }
 {
     let below = intake::codes(codes, steps);
@@ -81,15 +81,15 @@ fn first_pair(lengths: &[u16], inbound: &[u16], codes: &[u16]) -> usize
     ensures { λ r. ⌜ r ≡ firstPair (now (lengths .entry)) (now (inbound .entry)) (now (codes .entry)) ⌝ }
 {
     let n = codes.len();
-    let mut places = [0u16; 512];
-    sorting::order::places(inbound, &mut places);
-    sorting::order::first_unruled(lengths, &places[0..n], codes)
+    let mut places = [0u16; yard::CARS];
+    trains::places(inbound, &mut places);
+    pairs::first_unruled(lengths, &places[0..n], codes)
 }
 
 // 9: the trains in order, or else the lowest second car of a pair that breaks the rule; then the passes and the fullest pull.
 fn ordered(lengths: &[u16], inbound: &[u16], codes: &[u16], fullest: usize, steps: usize) -> Answer
-    requires { ⌜ Counted (now lengths) (now inbound) (now codes) × Listed (now lengths) (now inbound) × (steps ≤ 16) × (fullest ≡ mostNamed (now codes) steps) ⌝ }
-    ensures { λ r. ⌜ r ≡ verdict (pairTest (now (lengths .entry)) (now (inbound .entry)) (now (codes .entry)) ∷ []) (says 0 (length (now (codes .entry)) + setBelow steps (now (codes .entry))) (mostNamed (now (codes .entry)) steps)) ⌝ }
+    requires { ⌜ Counted (now lengths) (now inbound) (now codes) × Listed (now lengths) (now inbound) × (steps ≤ limits .steps) × (fullest ≡ fullestOf (now codes) steps) ⌝ }
+    ensures { λ r. ⌜ r ≡ verdict (pairTest (now (lengths .entry)) (now (inbound .entry)) (now (codes .entry)) ∷ []) (says 0 (length (now (codes .entry)) + setBelow steps (now (codes .entry))) (fullestOf (now (codes .entry)) steps)) ⌝ }
 {
     let j = first_pair(lengths, inbound, codes);
     if j < codes.len() {
@@ -141,26 +141,6 @@ fn placed(lengths: &[u16], inbound: &[u16], codes: &[u16], on: usize, at: usize)
     intake::list(5, inbound.len() <= at)
 }
 
-// Each car's track and place at a stage, written into the two buffers, with a list by car lent for the order.
-fn stand_with(
-    lengths: &[u16],
-    inbound: &[u16],
-    codes: &[u16],
-    tracks: usize,
-    steps: usize,
-    stage: usize,
-    order: &mut [u16],
-    on: &mut [u16],
-    at: &mut [u16],
-)
-    requires { ⌜ Placeable (now lengths) (now inbound) (now codes) tracks steps stage (now on) (now at) × (length (now order) ≡ length (now codes)) ⌝ }
-    ensures { λ _. ⌜ Placed (now (lengths .entry)) (now (inbound .entry)) (now (codes .entry)) tracks steps stage (now (on .entry)) (now (at .entry)) (now (on .exit)) (now (at .exit)) ⌝ }
-{
-    sorting::stage::sort(inbound, codes, stage, order);
-    sorting::stage::tracks(lengths, codes, tracks, steps, stage, on);
-    sorting::stage::places(order, on, at);
-}
-
 // Each car's track and place at a stage, written into the two buffers.
 fn stand(
     lengths: &[u16],
@@ -173,21 +153,14 @@ fn stand(
     at: &mut [u16],
 )
     requires { ⌜ Placeable (now lengths) (now inbound) (now codes) tracks steps stage (now on) (now at) ⌝ }
-    ensures { λ _. ⌜ Placed (now (lengths .entry)) (now (inbound .entry)) (now (codes .entry)) tracks steps stage (now (on .entry)) (now (at .entry)) (now (on .exit)) (now (at .exit)) ⌝ }
+    ensures { λ _. ⌜ Placed (now (lengths .entry)) (now (inbound .entry)) (now (codes .entry)) tracks steps stage
+        (now (on .entry)) (now (at .entry)) (now (on .exit)) (now (at .exit)) ⌝ }
 {
-    let n = codes.len();
-    let mut order = [0u16; 512];
-    stand_with(
-        lengths,
-        inbound,
-        codes,
-        tracks,
-        steps,
-        stage,
-        &mut order[0..n],
-        on,
-        at,
-    );
+    let n = inbound.len();
+    let mut order = [0u16; yard::CARS];
+    order::sort(inbound, codes, stage, &mut order[0..n]);
+    stage::tracks(lengths, codes, tracks, steps, stage, on);
+    stage::places(&order[0..n], on, at);
 }
 
 // Where each car of a plan stands at a stage, and the passes up to there; the buffers are written only where the replay is good.

@@ -5,11 +5,6 @@ ghost use Prim.Native.Nat.{_+_, _*_, _<_, _^_};
 ghost use Rattle.yard.specs.Answers.{says};
 ghost use Rattle.yard.specs.Price as meaning;
 
-// The limits of document 01.
-const MOST_STEPS: usize = 8;
-
-const MOST_PASSES: usize = 4608;
-
 // What a double is as a timing: so many sixteenths of a second, or not allowed.
 enum Timing {
     Sixteenths(u64),
@@ -72,10 +67,10 @@ pub fn price(steps: usize, passes: usize, timings: yard::Timings) -> yard::Price
 {
     let pull = timings.pull;
     let push = timings.push;
-    if MOST_STEPS < steps {
+    if yard::STEPS < steps {
         return refused(1, 5);
     }
-    if MOST_PASSES < passes {
+    if yard::PASSES < passes {
         return refused(1, 7);
     }
     let Timing::Sixteenths(pull_worth) = timing_of(pull) else {

@@ -6,7 +6,7 @@ use mathlib.Core.Logic.{⊎-elim}
 use mathlib.Core.List.{List, _++_}
 use native.Mathlib.Nat.{sub-zero}
 use native.Mathlib.Omega.{arith}
-use lib.Dec.{leb, eqb}
+use lib.Dec.{leb}
 use lib.ListN.{length, take, drop, replicate, length-append, length-replicate}
 use lib.Seq.{take-append-seam}
 use borrow.Author.Tests.{eq-eqb, ne-eqb, le-leb, lt-leb}
@@ -19,12 +19,12 @@ use Rattle.yard.specs.Derived.{stepsNeeded, derivedCodes, derivedPlan}
 use Rattle.yard.specs.Answers.{says}
 use Rattle.yard.specs.Demands.{BuildsTrains}
 use Rattle.yard.specs.Calls.{Checks, Derives, checkAnswer, deriveAnswer, deriveTests}
-use Rattle.yard.specs.Card.{card, cardPlan, headField, readerSays, readerVerdict, readerAnswer, writerTests, writerAnswer, Reads, Writes}
+use Rattle.yard.specs.Card.{card, cardPlan, readerVerdict, readerAnswer, writerTests, writerAnswer, Reads, Writes}
 use Rattle.yard.proofs.Numbers.{le-or-lt}
 use Rattle.yard.proofs.DerivedPlan.{length-by-car}
 use Rattle.yard.proofs.Verdict.{verdict-done, written-accepted, written-refused}
 use Rattle.yard.proofs.Card.{cardPlan-cars, cardPlan-codes}
-use Rattle.yard.proofs.CardCalls.{read-told}
+use Rattle.yard.proofs.CardCalls.{read-told, reader-says}
 use Rattle.card.proofs.Calls.{plan-read}
 use Rattle.lines.specs.Text.{Adds}
 use Rattle.lines.specs.Lines.{refusalLine, countsLine, trainLine, eachTo}
@@ -103,25 +103,11 @@ module _ (p : Plan) {r : Answer} (checks : Checks p r) where
       ∙ sym (told-done answer (counts (answer .a) ++ trainLines p) (sym (ap (λ q. q .number) (checks .answer)) ∙ e))
 
 -- a program's card: the reader refuses it, or its plan is in hand
-abbrev answerOf : CardAnswer → Answer
-answerOf r = says (r .number) (r .a) (r .b)
-
-reader-says : (bytes : List ℕ) (a b c : ℕ) → answerOf (readerAnswer limits bytes a b c) ≡ readerVerdict limits bytes a b c
-unfolding readerAnswer
-reader-says bytes a b c = go (readerVerdict limits bytes a b c) (eqb (readerVerdict limits bytes a b c .number) 0)
-  where
-    go : (v : Answer) (t : Bool)
-        → answerOf
-        (cond t (readerSays v (headField bytes 1) (headField bytes 2) (headField bytes 3) (headField bytes 4) (headField bytes 5)) (readerSays v 0 0 0 0 0))
-        ≡ v
-    go v true = refl
-    go v false = refl
-
 module _ {bytes : List ℕ} {r : CardAnswer} {l₁ i₁ c₁ : List ℕ} (reads : Reads bytes (empty 64) (empty 512) (empty 512) r l₁ i₁ c₁) where
   module _ (out : Plan → List ℕ) where
-    promised : answerOf r ≡ readerVerdict limits bytes 64 512 512
+    promised : says (r .number) (r .a) (r .b) ≡ readerVerdict limits bytes 64 512 512
     promised =
-        ap answerOf (rw (empty-length 64, empty-length 512) at (reads .answer)) ∙ reader-says bytes 64 512 512
+        ap (λ q. says (q .number) (q .a) (q .b)) (rw (empty-length 64, empty-length 512) at (reads .answer)) ∙ reader-says limits bytes 64 512 512
 
     pub card-refused : (r .number ≡ 0 → ⊥) → refusalLine (r .number) (r .a) (r .b) ≡ ofCard out bytes
     card-refused h = refusal-told (out (cardPlan bytes)) promised h

@@ -1,4 +1,4 @@
--- What an acceptance by check or derive yields. This page alone takes yard's lists of reasons apart.
+-- What an acceptance by check or derive yields.
 use Prim.Native.Nat.{ℕ, _≤_, _<_}
 use mathlib.Core.Path.{_≡_, ap, _∙_}
 use mathlib.Core.Bool.{Bool, false}
@@ -12,9 +12,9 @@ use Rattle.yard.specs.Limits.{limits}
 use Rattle.yard.specs.Night.{Night, Plan}
 use Rattle.yard.specs.Derived.{derivedPlan}
 use Rattle.yard.specs.Answers.{says, listTest}
-use Rattle.yard.specs.Calls.{checkAnswer, deriveAnswer}
-use Rattle.yard.specs.Card.{card, writerTests, writerAnswer}
-use Rattle.yard.specs.Demands.{Listed, BuildsTrains, AllHold, checkReasons, deriveReasons, writerReasons}
+use Rattle.yard.specs.Calls.{checkAnswer, deriveAnswer, GoodPlan}
+use Rattle.yard.specs.Card.{card, writerTests, writerAnswer, Writable}
+use Rattle.yard.specs.Demands.{Listed, BuildsTrains}
 use Rattle.yard.proofs.Verdict.{verdict-passes, verdict-first, passed-append}
 use Rattle.yard.proofs.Demands.{check-accepts-exactly, derive-accepts-exactly, derive-least}
 use Rattle.yard.proofs.CardDemands.{writer-accepts-exactly}
@@ -27,27 +27,45 @@ pub record Good (p : Plan) : Type 0 where
   pub listed : Listed (p .night .lengths) (p .night .inbound)
   pub builds : BuildsTrains p
 
-module _ (p : Plan) where
-  good-of : AllHold (checkReasons limits p) → Good p
-  good-of (cars, (trains, (tracks, (room, (steps, (nonempty, (adds, (once, (coded, (below, (never, (roomy, (builds, _))))))))))))) =
-      record { cars = cars .1; trains = trains .1; listed = record { nonempty = nonempty; adds = adds; once = once }; builds = builds }
+module _ (p : Plan) (accepted : checkAnswer limits p .number ≡ 0) where
+  whole : GoodPlan limits p
+  whole = check-accepts-exactly limits p .0 accepted
 
-  pub checked-good : checkAnswer limits p .number ≡ 0 → Good p
-  checked-good e = good-of (check-accepts-exactly limits p .0 e)
+  pub checked-good : Good p
+  unfolding whole
+  checked-good =
+      let counts = whole .given .counts in
+      record {
+        cars = counts .cars .1;
+        trains = counts .trains .1;
+        listed = whole .given .lists;
+        builds = whole .builds;
+      }
 
 module _ (n : Night) (derived : deriveAnswer limits n 8 512 .number ≡ 0) where
-  writes-of : (size : ℕ) → length (card (derivedPlan n)) ≤ size → AllHold (deriveReasons limits n 8 512) → AllHold (writerReasons limits (derivedPlan n) size)
+  writable : (size : ℕ) → length (card (derivedPlan n)) ≤ size → Writable limits (derivedPlan n) size
   unfolding derivedPlan
-  writes-of size fits (cars, (trains, (tracks, (room, (limit, (nonempty, (adds, (once, (coded, (sortable, _)))))))))) =
-      let least = derive-least limits n 8 512 derived in
-      let codes = least .0 .codes in
-      let few = le-trans (least .1 (sortable .steps) (sortable .codes) (sortable .sorts)) (sortable .within) in
-      (cars, (trains, (tracks, (room, ((omega arith, few), (nonempty, (adds, (once, (codes .each, (codes .below, (fits, tt)))))))))))
+  writable size fits =
+      let asked = derive-accepts-exactly limits n 8 512 .0 derived in
+      let counts = asked .given .given .counts in
+      let plan = derive-least limits n 8 512 derived .0 in
+      let kept = asked .sortable in
+      let few = le-trans (plan .least (kept .steps) (kept .codes) (kept .sorts)) (kept .within) in
+      record {
+        given =
+            record {
+              counts = record { cars = counts .cars; trains = counts .trains; tracks = counts .tracks; room = counts .room; steps = (omega arith, few) };
+              lists = asked .given .given .lists;
+            };
+        each = plan .sorts .codes .each;
+        below = plan .sorts .codes .below;
+        buffer = fits;
+      }
 
   -- the writer accepts the derived plan where the buffer holds its card, refuses it by 4, A 6, where not, and the card is short
   pub derived-writes : (size : ℕ) → length (card (derivedPlan n)) ≤ size → writerAnswer limits (derivedPlan n) size .number ≡ 0
   derived-writes size fits =
-      writer-accepts-exactly limits (derivedPlan n) size .1 (writes-of size fits (derive-accepts-exactly limits n 8 512 .0 derived))
+      writer-accepts-exactly limits (derivedPlan n) size .1 (writable size fits)
 
   pub derived-longest : length (card (derivedPlan n)) ≤ 1237
   derived-longest =

@@ -1,5 +1,3 @@
 -- What the contracts of this crate cite besides the yard's written meaning.
 pub mod Sums
 pub mod Early
-pub mod Pairs
-pub mod Stages

@@ -8,8 +8,8 @@ use Rattle.yard.specs.Words.{tally, total, most, first, upFrom}
 use Rattle.yard.specs.Replay.{bit}
 
 -- how many codes name step k
-abbrev pub named : List ℕ → ℕ → ℕ
-named codes k = total (λ x. tally (bit k x)) codes
+abbrev pub pullOf : List ℕ → ℕ → ℕ
+pullOf codes k = total (λ x. tally (bit k x)) codes
 
 -- the set bits below s of all codes
 abbrev pub setBelow : ℕ → List ℕ → ℕ
@@ -17,10 +17,10 @@ setBelow s codes = total (λ x. ones (x % 2 ^ s)) codes
 
 -- the first of h steps that more than C codes name, and the most codes that name one step
 abbrev pub above : ℕ → List ℕ → ℕ → Bool
-above C codes k = ltb C (named codes k)
+above C codes k = ltb C (pullOf codes k)
 
 abbrev pub firstAbove : ℕ → List ℕ → ℕ → ℕ
 firstAbove C codes h = first (above C codes) h 0
 
-abbrev pub mostNamed : List ℕ → ℕ → ℕ
-mostNamed codes h = most (named codes) (upFrom 0 h)
+abbrev pub fullestOf : List ℕ → ℕ → ℕ
+fullestOf codes h = most (pullOf codes) (upFrom 0 h)

@@ -2,6 +2,7 @@
 ghost use mathlib.Core.Path.{_≡_};
 ghost use Prim.Native.Nat.{_+_, _≤_, _<_};
 ghost use lib.ListN.{length};
+ghost use Rattle.yard.specs.Limits.{limits};
 ghost use Rattle.yard.specs.Replay.{nextStep};
 ghost use Rattle.yard.specs.Waiting.{waits};
 ghost use Rattle.sorting.specs.Early.{earlyFound};
@@ -23,7 +24,7 @@ pub fn next_step(code: u16, steps: usize, step: usize) -> usize
 
 // A car with this code stands on the track of this step, bound for a later one that uses the same track.
 pub fn waits(code: u16, tracks: usize, steps: usize, step: usize) -> bool
-    requires { ⌜ (0 < tracks) × (step < steps) × (steps ≤ 16) ⌝ }
+    requires { ⌜ (0 < tracks) × (step < steps) × (steps ≤ limits .steps) ⌝ }
     ensures { λ r. ⌜ r ≡ waits tracks steps code step ⌝ }
 {
     let next = next_step(code, steps, step);
@@ -38,7 +39,7 @@ pub fn waits(code: u16, tracks: usize, steps: usize, step: usize) -> bool
 
 // Goes over steps, then cars, and ends both at the first hit.
 pub fn first_early(codes: &[u16], tracks: usize, steps: usize) -> Early
-    requires { ⌜ (0 < tracks) × (steps ≤ 16) ⌝ }
+    requires { ⌜ (0 < tracks) × (steps ≤ limits .steps) ⌝ }
     ensures { λ r. ⌜ r ≡ earlyFound tracks steps (now (codes .entry)) ⌝ }
 {
     let mut found = Early::Never;

@@ -1,15 +1,14 @@
-// What a replay does, worked out from the codes: passes, pulls, the first early pull, the order at a stage.
+// What a replay does, worked out from the codes: passes, pulls and the first early pull.
 pub mod early;
-pub mod order;
-pub mod stage;
 
 ghost use mathlib.Core.Path.{_≡_};
 ghost use Prim.Native.Nat.{_+_, _%_, _^_, max, _≤_, _<_};
 ghost use lib.Count.{ones};
 ghost use lib.ListN.{length};
+ghost use Rattle.yard.specs.Limits.{limits};
 ghost use Rattle.yard.specs.Words.{tally};
 ghost use Rattle.yard.specs.Replay.{bit};
-ghost use Rattle.sorting.specs.Sums.{named, setBelow, firstAbove, mostNamed};
+ghost use Rattle.sorting.specs.Sums.{pullOf, setBelow, firstAbove, fullestOf};
 
 // 1 where the code names the step, else 0.
 fn names(code: u16, step: usize) -> u16
@@ -21,8 +20,8 @@ fn names(code: u16, step: usize) -> u16
 
 // How many codes name the step: the cars it pulls. The count is as wide as a code, so that the machine counts many codes at once.
 pub fn pull(codes: &[u16], step: usize) -> usize
-    requires { ⌜ (step < 16) × (length (now codes) ≤ 4096) ⌝ }
-    ensures { λ r. ⌜ r ≡ named (now (codes .entry)) step ⌝ }
+    requires { ⌜ (step < limits .steps) × (length (now codes) ≤ limits .cars) ⌝ }
+    ensures { λ r. ⌜ r ≡ pullOf (now (codes .entry)) step ⌝ }
 {
     let mut cars: u16 = 0;
     for i in 0..codes.len() {
@@ -33,7 +32,7 @@ pub fn pull(codes: &[u16], step: usize) -> usize
 
 // The first step that pulls more cars than there is room for, or steps where none does, by going over the steps.
 fn find_above(codes: &[u16], steps: usize, room: usize) -> usize
-    requires { ⌜ (steps ≤ 16) × (length (now codes) ≤ 4096) ⌝ }
+    requires { ⌜ (steps ≤ limits .steps) × (length (now codes) ≤ limits .cars) ⌝ }
     ensures { λ r. ⌜ r ≡ firstAbove room (now (codes .entry)) steps ⌝ }
 {
     for step in 0..steps {
@@ -46,7 +45,7 @@ fn find_above(codes: &[u16], steps: usize, room: usize) -> usize
 
 // The same, for codes whose fullest pull is known; only where it is above the room is there a step to look for.
 pub fn first_above(codes: &[u16], steps: usize, room: usize, fullest: usize) -> usize
-    requires { ⌜ (steps ≤ 16) × (length (now codes) ≤ 4096) × (fullest ≡ mostNamed (now codes) steps) ⌝ }
+    requires { ⌜ (steps ≤ limits .steps) × (length (now codes) ≤ limits .cars) × (fullest ≡ fullestOf (now codes) steps) ⌝ }
     ensures { λ r. ⌜ r ≡ firstAbove room (now (codes .entry)) steps ⌝ }
 {
     if room < fullest {
@@ -64,8 +63,8 @@ fn larger(a: usize, b: usize) -> usize
 
 // The cars of the fullest pull, 0 where there are no steps.
 pub fn fullest(codes: &[u16], steps: usize) -> usize
-    requires { ⌜ (steps ≤ 16) × (length (now codes) ≤ 4096) ⌝ }
-    ensures { λ r. ⌜ r ≡ mostNamed (now (codes .entry)) steps ⌝ }
+    requires { ⌜ (steps ≤ limits .steps) × (length (now codes) ≤ limits .cars) ⌝ }
+    ensures { λ r. ⌜ r ≡ fullestOf (now (codes .entry)) steps ⌝ }
 {
     let mut most: usize = 0;
     for step in 0..steps {
@@ -82,7 +81,7 @@ fn ones(code: u16) -> u16
 }
 
 // The low bits of a code, below a stage.
-fn low(code: u16, stage: usize) -> u16
+pub fn low(code: u16, stage: usize) -> u16
     requires { ⌜ stage ≤ 16 ⌝ }
     ensures { λ r. ⌜ r ≡ code % 2 ^ stage ⌝ }
 {
@@ -93,9 +92,9 @@ fn low(code: u16, stage: usize) -> u16
 }
 
 // The cars that roll in up to a stage: each once, and once more for each set bit of its code below the stage.
-// The sum is as wide as a code, which 4,095 cars fill with 16 bits each.
+// The sum is as wide as a code, for the same reason.
 pub fn passes(codes: &[u16], stage: usize) -> usize
-    requires { ⌜ (stage ≤ 16) × (length (now codes) ≤ 4095) ⌝ }
+    requires { ⌜ (stage ≤ limits .steps) × (length (now codes) ≤ limits .cars) ⌝ }
     ensures { λ r. ⌜ r ≡ length (now (codes .entry)) + setBelow stage (now (codes .entry)) ⌝ }
 {
     let mut again: u16 = 0;

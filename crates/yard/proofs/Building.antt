@@ -67,13 +67,21 @@ order-passed p =
 
 -- a car of a night's trains stands in the list of its train's cars, and in no other
 module _ (lengths inbound : List ℕ) (f : Listed lengths inbound) where
-  pub train-cars : (car : ℕ) → Within 1 (length inbound) car → (i : ℕ) × (i < length lengths) × (trainOf lengths car ≡ suc i) × (firstCar lengths (suc i) ≤ car) × (car < firstCar lengths (suc i) + itemOf lengths (suc i))
+  pub train-cars : (car : ℕ) → Within 1 (length inbound) car
+      → (i : ℕ) × (i < length lengths) × (trainOf lengths car ≡ suc i) × (firstCar lengths (suc i) ≤ car) ×
+      (car < firstCar lengths (suc i) + itemOf lengths (suc i))
   train-cars car w =
       let r = train-in lengths car (w .0) (omega (arith, w .1, f .adds)) in
-      let i : ℕ = r .0 in
-      (i, r .1, train-of lengths i car (r .1) (r .2) (r .3), omega (arith, firstCar-suc lengths i, r .2), omega (arith, firstCar-suc lengths i, itemOf-suc lengths i, r .3))
+      let i : ℕ = r .0 in (
+        i,
+        r .1,
+        train-of lengths i car (r .1) (r .2) (r .3),
+        omega (arith, firstCar-suc lengths i, r .2),
+        omega (arith, firstCar-suc lengths i, itemOf-suc lengths i, r .3),
+      )
 
-  pub cars-train : (i car : ℕ) → i < length lengths → firstCar lengths (suc i) ≤ car → car < firstCar lengths (suc i) + itemOf lengths (suc i) → (trainOf lengths car ≡ suc i) × Within 1 (length inbound) car
+  pub cars-train : (i car : ℕ) → i < length lengths → firstCar lengths (suc i) ≤ car
+      → car < firstCar lengths (suc i) + itemOf lengths (suc i) → (trainOf lengths car ≡ suc i) × Within 1 (length inbound) car
   cars-train i car m a b = (
     train-of lengths i car m (omega (arith, firstCar-suc lengths i)) (omega (arith, firstCar-suc lengths i, itemOf-suc lengths i)),
     (omega (arith, firstCar-suc lengths i), omega (arith, firstCar-suc lengths i, itemOf-suc lengths i, train-end lengths i m, f .adds)),
@@ -121,7 +129,8 @@ module _ (p : Plan) (f : Listed (p .night .lengths) (p .night .inbound)) (formed
   among-final car = sorted-count (codeOf p) (p .night .inbound) (p .steps) car
 
   -- a train's track holds just its cars
-  pub built-holds : (i : ℕ) → i < length (p .night .lengths) → Holds (built p (suc i)) (firstCar (p .night .lengths) (suc i)) (itemOf (p .night .lengths) (suc i))
+  pub built-holds : (i : ℕ) → i < length (p .night .lengths)
+      → Holds (built p (suc i)) (firstCar (p .night .lengths) (suc i)) (itemOf (p .night .lengths) (suc i))
   built-holds i m x =
       ⊎-elim
       (λ low. ⊎-elim (λ high. out (inr high)) (λ high. inside low high (cars-train lengths inbound f i x m low high)) (le-or-lt (head + len) x))
@@ -156,7 +165,8 @@ module _ (p : Plan) (f : Listed (p .night .lengths) (p .night .inbound)) (formed
           none zero q = refl
           none (suc k) q = absurd (stray (train-cars lengths inbound f x (came-within lengths inbound f x (omega arith))))
             where
-              stray : ((j : ℕ) × (j < length lengths) × (trainOf lengths x ≡ suc j) × (firstCar lengths (suc j) ≤ x) × (x < firstCar lengths (suc j) + itemOf lengths (suc j))) → ⊥
+              stray : ((j : ℕ) × (j < length lengths) × (trainOf lengths x ≡ suc j) × (firstCar lengths (suc j) ≤ x) ×
+                  (x < firstCar lengths (suc j) + itemOf lengths (suc j))) → ⊥
               stray r =
                   let q : r .0 ≡ i = omega (arith, r .2, off-train i x e) in
                   ⊎-elim
@@ -173,13 +183,16 @@ module _ (p : Plan) (f : Listed (p .night .lengths) (p .night .inbound)) (formed
           sym (count-upFrom-out x head len o)
 
   -- of two neighbours in a train the first stands before the second exactly if the rule holds for them
-  pub built-before : (i j : ℕ) → i < length (p .night .lengths) → firstCar (p .night .lengths) (suc i) ≤ j → suc j < firstCar (p .night .lengths) (suc i) + itemOf (p .night .lengths) (suc i) → before j (suc j) (built p (suc i)) ≡ ruled (codeOf p j) (codeOf p (suc j)) (broken (p .night .inbound) j)
+  pub built-before : (i j : ℕ) → i < length (p .night .lengths) → firstCar (p .night .lengths) (suc i) ≤ j
+      → suc j < firstCar (p .night .lengths) (suc i) + itemOf (p .night .lengths) (suc i)
+      → before j (suc j) (built p (suc i)) ≡ ruled (codeOf p j) (codeOf p (suc j)) (broken (p .night .inbound) j)
   unfolding final
   built-before i j m a b =
       ap (λ (u : List ℕ). before j (suc j) u) (built-kept (suc i)) ∙
       (before-keep (onTrain (suc i)) j (suc j) final (on-train i j (here .0)) (on-train i (suc j) (next .0)) ∙
       (sorted-before (codeOf p) inbound j (suc j) differ among-j among-next (p .steps) ∙
-      (ap₂ (λ (x y : ℕ). ahead x y (before j (suc j) inbound)) (low-all (p .steps) (codeOf p j) (below j (here .1))) (low-all (p .steps) (codeOf p (suc j)) (below (suc j) (next .1))) ∙
+      (ap₂ (λ (x y : ℕ). ahead x y (before j (suc j) inbound)) (low-all (p .steps) (codeOf p j) (below j (here .1)))
+      (low-all (p .steps) (codeOf p (suc j)) (below (suc j) (next .1))) ∙
       (ruled-ahead (codeOf p j) (codeOf p (suc j)) (before j (suc j) inbound) ∙
       ap (λ (c : Bool). ruled (codeOf p j) (codeOf p (suc j)) c) (sym (before-turned j (suc j) inbound differ among-j))))))
     where
@@ -205,15 +218,19 @@ module _ (p : Plan) (f : Listed (p .night .lengths) (p .night .inbound)) (formed
       below car w = formed .below car (w .0, omega (arith, w .1, formed .each))
 
   -- the trains are built in order exactly if no pair breaks the rule
-  pub ruled-of-builds : BuildsTrains p → (i j : ℕ) → i < length (p .night .lengths) → firstCar (p .night .lengths) (suc i) ≤ j → suc j < firstCar (p .night .lengths) (suc i) + itemOf (p .night .lengths) (suc i) → ruled (codeOf p j) (codeOf p (suc j)) (broken (p .night .inbound) j) ≡ true
+  pub ruled-of-builds : BuildsTrains p → (i j : ℕ) → i < length (p .night .lengths) → firstCar (p .night .lengths) (suc i) ≤ j
+      → suc j < firstCar (p .night .lengths) (suc i) + itemOf (p .night .lengths) (suc i)
+      → ruled (codeOf p j) (codeOf p (suc j)) (broken (p .night .inbound) j) ≡ true
   unfolding BuildsTrains
   ruled-of-builds builds i j m a b =
       sym (built-before i j m a b) ∙
-      (ap (λ (u : List ℕ). before j (suc j) u) (builds (suc i) (omega arith, m)) ∙ upFrom-before (firstCar (p .night .lengths) (suc i)) (itemOf (p .night .lengths) (suc i)) j a b)
+      (ap (λ (u : List ℕ). before j (suc j) u) (builds (suc i) (omega arith, m))
+      ∙ upFrom-before (firstCar (p .night .lengths) (suc i)) (itemOf (p .night .lengths) (suc i)) j a b)
 
   rule-of-builds : BuildsTrains p → (j : ℕ) → 1 ≤ j → j < length (p .night .inbound) → unruled p j ≡ false
   unfolding BuildsTrains
-  rule-of-builds builds j l m = not-so (unruled p j) (λ e. breaks e (train-cars lengths inbound f j (l, omega arith)) (train-cars lengths inbound f (suc j) (omega arith, m)))
+  rule-of-builds builds j l m =
+      not-so (unruled p j) (λ e. breaks e (train-cars lengths inbound f j (l, omega arith)) (train-cars lengths inbound f (suc j) (omega arith, m)))
     where
       lengths : List ℕ
       lengths = p .night .lengths
@@ -225,12 +242,16 @@ module _ (p : Plan) (f : Listed (p .night .lengths) (p .night .inbound)) (formed
       rule = ruled (codeOf p j) (codeOf p (suc j)) (broken inbound j)
 
       At : ℕ → Type 0
-      At car = (i : ℕ) × (i < length lengths) × (trainOf lengths car ≡ suc i) × (firstCar lengths (suc i) ≤ car) × (car < firstCar lengths (suc i) + itemOf lengths (suc i))
+      At car =
+          (i : ℕ) × (i < length lengths) × (trainOf lengths car ≡ suc i) × (firstCar lengths (suc i) ≤ car) ×
+          (car < firstCar lengths (suc i) + itemOf lengths (suc i))
 
       breaks : unruled p j ≡ true → At j → At (suc j) → ⊥
       breaks e r s =
-          let q : s .0 ≡ r .0 = suc-inj (sym (s .2) ∙ (sym (eqb-true (trainOf lengths j) (trainOf lengths (suc j)) (and-left (pair lengths j) (not rule) e)) ∙ r .2)) in
-          let b : suc j < firstCar lengths (suc (r .0)) + itemOf lengths (suc (r .0)) = omega (arith, s .4, ap (λ (k : ℕ). firstCar lengths (suc k) + itemOf lengths (suc k)) q) in
+          let q : s .0 ≡ r .0 =
+          suc-inj (sym (s .2) ∙ (sym (eqb-true (trainOf lengths j) (trainOf lengths (suc j)) (and-left (pair lengths j) (not rule) e)) ∙ r .2)) in
+          let b : suc j < firstCar lengths (suc (r .0)) + itemOf lengths (suc (r .0)) =
+          omega (arith, s .4, ap (λ (k : ℕ). firstCar lengths (suc k) + itemOf lengths (suc k)) q) in
           clash (ruled-of-builds builds (r .0) j (r .1) (r .3) b) (not-true rule (and-right (pair lengths j) (not rule) e))
 
   builds-of-rule : ((j : ℕ) → 1 ≤ j → j < length (p .night .inbound) → unruled p j ≡ false) → BuildsTrains p
@@ -238,7 +259,8 @@ module _ (p : Plan) (f : Listed (p .night .lengths) (p .night .inbound)) (formed
   builds-of-rule rule zero w = absurd (omega (arith, w .0))
   builds-of-rule rule (suc i) w =
       in-order (built p (suc i)) (firstCar lengths (suc i)) (itemOf lengths (suc i)) (built-holds i (w .1))
-      (λ j a b. built-before i j (w .1) a b ∙ keeps j (cars-train lengths inbound f i j (w .1) a (omega arith)) (cars-train lengths inbound f i (suc j) (w .1) (omega arith) b))
+      (λ j a b. built-before i j (w .1) a b
+      ∙ keeps j (cars-train lengths inbound f i j (w .1) a (omega arith)) (cars-train lengths inbound f i (suc j) (w .1) (omega arith) b))
     where
       lengths : List ℕ
       lengths = p .night .lengths
@@ -246,7 +268,8 @@ module _ (p : Plan) (f : Listed (p .night .lengths) (p .night .inbound)) (formed
       inbound : List ℕ
       inbound = p .night .inbound
 
-      keeps : (j : ℕ) → (trainOf lengths j ≡ suc i) × Within 1 (length inbound) j → (trainOf lengths (suc j) ≡ suc i) × Within 1 (length inbound) (suc j) → ruled (codeOf p j) (codeOf p (suc j)) (broken inbound j) ≡ true
+      keeps : (j : ℕ) → (trainOf lengths j ≡ suc i) × Within 1 (length inbound) j
+          → (trainOf lengths (suc j) ≡ suc i) × Within 1 (length inbound) (suc j) → ruled (codeOf p j) (codeOf p (suc j)) (broken inbound j) ≡ true
       keeps j r s =
           ⊎-elim (λ e. e)
           (λ e. clash (and-both (eq-eqb (trainOf lengths j) (trainOf lengths (suc j)) (r .0 ∙ sym (s .0))) (ap not e)) (rule j (r .1 .0) (s .1 .1)))
@@ -259,7 +282,8 @@ module _ (p : Plan) (f : Listed (p .night .lengths) (p .night .inbound)) (formed
   pub order-ruled : 1 ≤ length (p .night .inbound) → inOrder p ≡ leb (length (p .night .inbound)) (first (unruled p) (length (p .night .inbound) - 1) 1)
   order-ruled some =
       same-test (inOrder p) (leb n (first (unruled p) (n - 1) 1))
-      (λ e. le-leb n (first (unruled p) (n - 1) 1) (omega (arith, first-fails (unruled p) (n - 1) 1 (λ j l m. builds-ruled .0 (order-builds p .0 e) j l (omega arith)))))
+      (λ e. le-leb n (first (unruled p) (n - 1) 1)
+      (omega (arith, first-fails (unruled p) (n - 1) 1 (λ j l m. builds-ruled .0 (order-builds p .0 e) j l (omega arith)))))
       (λ e. order-builds p .1 (builds-ruled .1 (λ j l m. first-none (unruled p) (n - 1) 1 j l (omega (arith, leb-true n (first (unruled p) (n - 1) 1) e)))))
     where
       n : ℕ

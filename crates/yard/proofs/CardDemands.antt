@@ -1,87 +1,140 @@
--- Demand 1 for the card's calls: reader and writer refuse by the number of the first reason that does not hold, and by no other.
+-- Demands 1 and 2 for the card's calls: what reader and writer accept, and every refusal with its number, A and B.
+use Prim.Native.Nat.{ℕ, suc, _≤_, _<_}
 use mathlib.Core.Path.{_≡_, refl}
-use mathlib.Core.Logic.{_↔_}
+use mathlib.Core.Logic.{_⊎_, _↔_}
 use mathlib.Core.Bool.{true}
-use mathlib.Core.List.{List, _++_}
-use Prim.Native.Nat.{ℕ, _≤_, _<_}
+use mathlib.Core.List.{List, [], _∷_, _++_}
 use lib.Dec.{leb, eqb}
-use lib.ListN.{length, drop}
-use borrow.Author.Tests.{leb-true, le-leb, eqb-true, eq-eqb}
-use Rattle.yard.specs.declared.Answer.{Answer}
+use lib.ListN.{length}
+use borrow.Author.Tests.{eqb-true, eq-eqb}
 use Rattle.yard.specs.Limits.{Limits}
-use Rattle.yard.specs.Night.{Plan}
-use Rattle.yard.specs.Answers.{says, test}
-use Rattle.yard.specs.Calls.{countTests}
-use Rattle.yard.specs.Card.{card, headField, cardPlan, rightLength, endsRight, writerTests, writerAnswer, readerTests, readerVerdict}
-use Rattle.yard.specs.Demands.{Reason, AllHold, FirstFails, must, rangeReasons, writerReasons, readerReasons}
-use Rattle.yard.proofs.Tests.{asks}
-use Rattle.yard.proofs.Reasons.{Agrees, Agree, agree-append, accepted-exactly, refused-exactly}
-use Rattle.yard.proofs.Demands.{agrees, ranges-agree, counts-then, night-then, codes-agree, codes-length-agrees, buffer-agrees}
+use Rattle.yard.specs.declared.Head.{Head}
+use Rattle.yard.specs.Night.{Night, Plan}
+use Rattle.yard.specs.Answers.{says, Ask, AllHold, FirstFails}
+use Rattle.yard.specs.Calls.{listAsks}
+use Rattle.yard.specs.Card.{card, headLength, headOn, cardPlan, rightLength, endsRight, writerOwn, writerAsks, writerAnswer, Writable}
+use Rattle.yard.specs.Card.{bytesAsk, editionAsk, endAsk, headCounts, sizeAsks, readerAsks, readerVerdict, Readable}
+use Rattle.yard.proofs.Asks.{Right, Sound, holds-append, sound-append, accepted-exactly, refused-exactly, plain-right}
+use Rattle.yard.proofs.Rights.{at-most-right, length-right, buffer-right, code-right}
+use Rattle.yard.proofs.Demands.{counts-sound, counts-hold, lists-sound, lists-hold, opening-sound, opening-holds}
 
--- 10: a card of at least so many bytes
-bytes-agree : (a i j : ℕ) → Agrees (test (leb i j) (says 10 a 0)) (must 10 (i ≤ j))
-bytes-agree a i j =
-    let asked = asks (leb i j) 9 a 0 in
-    agrees (leb i j) 9 a 0 (i ≤ j) (λ e. leb-true i j (asked .0 e), λ l. asked .1 (le-leb i j l))
-
--- 11: the edition
-edition-agrees : (e : ℕ) → Agrees (test (eqb e 1) (says 11 e 0)) (must 11 (e ≡ 1))
-edition-agrees e =
-    let asked = asks (eqb e 1) 10 e 0 in
-    agrees (eqb e 1) 10 e 0 (e ≡ 1) (λ q. eqb-true e 1 (asked .0 q), λ q. asked .1 (eq-eqb e 1 q))
-
-writer-agrees : (L : Limits) (p : Plan) (size : ℕ) → Agree (writerTests L p size) (writerReasons L p size)
-writer-agrees L p size =
-    counts-then L (p .night) (p .steps) (drop 5 (writerTests L p size)) (drop 5 (writerReasons L p size))
-    (λ _.
-    night-then (p .night) (drop 8 (writerTests L p size)) (drop 8 (writerReasons L p size))
-    (λ _. (codes-length-agrees p, λ _. (codes-agree (p .steps) (p .codes), λ _. (buffer-agrees 6 (length (card p)) size, λ _. tt)))))
-
-reader-agrees : (L : Limits) (bytes : List ℕ) (a b c : ℕ) → Agree (readerTests L bytes a b c) (readerReasons L bytes a b c)
-reader-agrees L bytes a b c =
-    let m = headField bytes 5 in
-    let n = headField bytes 4 in (
-      bytes-agree 1 1 (length bytes),
-      λ _. (
-        edition-agrees (headField bytes 0),
-        λ _. (
-          bytes-agree 5 5 (length bytes),
-          λ _.
-              agree-append (countTests L n m (headField bytes 2) (headField bytes 3) (headField bytes 1)) (drop 8 (readerTests L bytes a b c)) (rangeReasons L n m (headField bytes 2) (headField bytes 3) (headField bytes 1)) (drop 8 (readerReasons L bytes a b c))
-              (ranges-agree L n m (headField bytes 2) (headField bytes 3) (headField bytes 1))
-              (λ _. (
-                bytes-agree (rightLength bytes) (rightLength bytes) (length bytes),
-                λ _. (
-                  buffer-agrees 1 m a,
-                  λ _. (
-                    buffer-agrees 2 n b,
-                    λ _. (
-                      buffer-agrees 3 n c,
-                      λ _.
-                          night-then (cardPlan bytes .night) (drop 15 (readerTests L bytes a b c)) (drop 15 (readerReasons L bytes a b c))
-                          (λ _. (agrees (endsRight bytes) 11 (rightLength bytes) 0 (endsRight bytes ≡ true) (asks (endsRight bytes) 11 (rightLength bytes) 0), λ _. tt)),
-                    ),
-                  ),
-                ),
-              )),
-        ),
-      ),
-    )
+-- ---- the writer
 
 module _ (L : Limits) (p : Plan) (size : ℕ) where
-  pub writer-accepts-exactly : (writerAnswer L p size .number ≡ 0) ↔ AllHold (writerReasons L p size)
+  writer-sound : Sound (writerAsks L p size)
+  writer-sound =
+      opening-sound L (p .night) (p .steps) [] (writerOwn p size) tt
+      (λ _. (
+        length-right 3 (length (p .codes)) (length (p .night .inbound)),
+        λ _. (code-right (p .steps) (p .codes), λ _. (buffer-right 6 (length (card p)) size, λ _. tt)),
+      ))
+
+  writer-holds : AllHold (writerAsks L p size) ↔ Writable L p size
+  writer-holds =
+      let opened = opening-holds L (p .night) (p .steps) [] (writerOwn p size) in (
+        λ all.
+            let (given, _, more) = opened .0 all in
+            let (each, more) = more in
+            let (below, more) = more in
+            record { given = given; each = each; below = below; buffer = more .0 },
+        λ w. opened .1 (w .given, tt, (w .each, (w .below, (w .buffer, tt)))),
+      )
+
+  pub writer-accepts-exactly : (writerAnswer L p size .number ≡ 0) ↔ Writable L p size
   unfolding writerAnswer
-  writer-accepts-exactly = accepted-exactly (says 0 (length (card p)) 0) refl (writerTests L p size) (writerReasons L p size) (writer-agrees L p size)
+  writer-accepts-exactly =
+      let exactly = accepted-exactly (says 0 (length (card p)) 0) refl (writerAsks L p size) writer-sound in
+      (λ e. writer-holds .0 (exactly .0 e), λ w. exactly .1 (writer-holds .1 w))
 
-  pub writer-refuses-exactly : (k : ℕ) → 0 < k → (writerAnswer L p size .number ≡ k) ↔ FirstFails k (writerReasons L p size)
+  pub writer-refuses-exactly : (k a b : ℕ) → 0 < k → (writerAnswer L p size ≡ says k a b) ↔ FirstFails k a b (writerAsks L p size)
   unfolding writerAnswer
-  writer-refuses-exactly k pos = refused-exactly (says 0 (length (card p)) 0) refl k pos (writerTests L p size) (writerReasons L p size) (writer-agrees L p size)
+  writer-refuses-exactly k a b pos = refused-exactly (says 0 (length (card p)) 0) refl k a b pos (writerAsks L p size) writer-sound
 
-module _ (L : Limits) (bytes : List ℕ) (a b c : ℕ) where
-  pub reader-accepts-exactly : (readerVerdict L bytes a b c .number ≡ 0) ↔ AllHold (readerReasons L bytes a b c)
-  unfolding readerVerdict
-  reader-accepts-exactly = accepted-exactly (says 0 0 0) refl (readerTests L bytes a b c) (readerReasons L bytes a b c) (reader-agrees L bytes a b c)
+-- ---- the reader
 
-  pub reader-refuses-exactly : (k : ℕ) → 0 < k → (readerVerdict L bytes a b c .number ≡ k) ↔ FirstFails k (readerReasons L bytes a b c)
+bytes-right : (needed : ℕ) (bytes : List ℕ) → Right (bytesAsk needed bytes)
+bytes-right needed bytes = at-most-right 9 needed needed (length bytes)
+
+edition-right : (edition : ℕ) → Right (editionAsk edition)
+edition-right edition = plain-right 10 (eqb edition 1) edition (edition ≡ 1) (eqb-true edition 1, eq-eqb edition 1)
+
+end-right : (bytes : List ℕ) → Right (endAsk bytes)
+end-right bytes = plain-right 11 (endsRight bytes) (rightLength bytes) (endsRight bytes ≡ true) (λ e. e, λ e. e)
+
+head-sound : (L : Limits) (h : Head) → Sound (headCounts L h)
+head-sound L h = counts-sound L (h .cars) (h .trains) (h .tracks) (h .room) (h .steps)
+
+module _ (L : Limits) (bytes : List ℕ) (lengthsSize inboundSize codesSize : ℕ) where
+  abbrev h : Head
+  h = headOn bytes
+
+  abbrev night : Night
+  night = cardPlan bytes .night
+
+  abbrev sizes : List Ask
+  sizes = sizeAsks bytes lengthsSize inboundSize codesSize
+
+  last-sound : Sound (listAsks night ++ (endAsk bytes ∷ []))
+  last-sound = sound-append (listAsks night) (endAsk bytes ∷ []) (lists-sound night) (λ _. (end-right bytes, λ _. tt))
+
+  reader-sound : Sound (readerAsks L bytes lengthsSize inboundSize codesSize)
+  reader-sound = (
+    bytes-right 1 bytes,
+    λ _. (
+      edition-right (h .edition),
+      λ _. (
+        bytes-right (headLength h) bytes,
+        λ _.
+            sound-append (headCounts L h) sizes (head-sound L h)
+            (λ _. (
+              bytes-right (rightLength bytes) bytes,
+              λ _. (
+                buffer-right 1 (h .trains) lengthsSize,
+                λ _. (buffer-right 2 (h .cars) inboundSize, λ _. (buffer-right 3 (h .cars) codesSize, λ _. last-sound)),
+              ),
+            )),
+      ),
+    ),
+  )
+
+  reader-holds : AllHold (readerAsks L bytes lengthsSize inboundSize codesSize) ↔ Readable L bytes lengthsSize inboundSize codesSize
+  reader-holds =
+      let counted = counts-hold L (h .cars) (h .trains) (h .tracks) (h .room) (h .steps) in
+      let parted = holds-append (headCounts L h) sizes in
+      let listed = holds-append (listAsks night) (endAsk bytes ∷ []) in (
+        λ (some, more).
+            let (edition, more) = more in
+            let (head, more) = more in
+            let (counts, more) = parted .0 more in
+            let (whole, more) = more in
+            let (lengths, more) = more in
+            let (inbound, more) = more in
+            let (codes, more) = more in
+            let (lists, ends) = listed .0 more in
+            record {
+              some = some;
+              edition = edition;
+              head = head;
+              counts = counted .0 counts;
+              whole = whole;
+              lengths = lengths;
+              inbound = inbound;
+              codes = codes;
+              lists = lists-hold night .0 lists;
+              ends = ends .0;
+            },
+        λ r.
+            let last = listed .1 (lists-hold night .1 (r .lists), (r .ends, tt)) in
+            let body : AllHold sizes = (r .whole, (r .lengths, (r .inbound, (r .codes, last)))) in
+            (r .some, (r .edition, (r .head, parted .1 (counted .1 (r .counts), body)))),
+      )
+
+  pub reader-accepts-exactly : (readerVerdict L bytes lengthsSize inboundSize codesSize .number ≡ 0) ↔ Readable L bytes lengthsSize inboundSize codesSize
   unfolding readerVerdict
-  reader-refuses-exactly k pos = refused-exactly (says 0 0 0) refl k pos (readerTests L bytes a b c) (readerReasons L bytes a b c) (reader-agrees L bytes a b c)
+  reader-accepts-exactly =
+      let exactly = accepted-exactly (says 0 0 0) refl (readerAsks L bytes lengthsSize inboundSize codesSize) reader-sound in
+      (λ e. reader-holds .0 (exactly .0 e), λ r. exactly .1 (reader-holds .1 r))
+
+  pub reader-refuses-exactly : (k a b : ℕ) → 0 < k → (readerVerdict L bytes lengthsSize inboundSize codesSize ≡ says k a b) ↔ FirstFails k a b (readerAsks L bytes lengthsSize inboundSize codesSize)
+  unfolding readerVerdict
+  reader-refuses-exactly k a b pos = refused-exactly (says 0 0 0) refl k a b pos (readerAsks L bytes lengthsSize inboundSize codesSize) reader-sound

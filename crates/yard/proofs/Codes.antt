@@ -42,12 +42,15 @@ pub total-last : (f : ℕ → ℕ) (a n : ℕ) → total f (upFrom a (suc n)) �
 total-last f a zero = omega (arith, ap f (add-zero a))
 total-last f a (suc n) = omega (arith, total-last f (suc a) n, ap f (suc-add a n ∙ sym (add-suc a n)))
 
+pub total-next : (f : ℕ → ℕ) (n : ℕ) → total f (upFrom 0 (suc n)) ≡ total f (upFrom 0 n) + f n
+total-next f n = total-last f 0 n ∙ ap (λ (k : ℕ). total f (upFrom 0 n) + f k) (zero-add n)
+
 -- how many of the bits below s are set
 abbrev pub setBits : ℕ → ℕ → ℕ
 setBits s x = total (λ k. tally (bit k x)) (upFrom 0 s)
 
 pub setBits-suc : (s x : ℕ) → setBits (suc s) x ≡ setBits s x + tally (bit s x)
-setBits-suc s x = total-last (λ k. tally (bit k x)) 0 s ∙ ap (λ (k : ℕ). setBits s x + tally (bit k x)) (zero-add s)
+setBits-suc s x = total-next (λ k. tally (bit k x)) s
 
 ones-tally : (b : Bool) → ones (tally b) ≡ tally b
 unfolding ones

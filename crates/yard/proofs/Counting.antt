@@ -4,7 +4,9 @@ use mathlib.Core.Logic.{_⊎_, inl, inr, ⊎-elim, _↔_}
 use mathlib.Core.Bool.{Bool, true, false, cond, not, _&&_, _||_}
 use mathlib.Core.List.{List, [], _∷_}
 use Prim.Native.Nat.{ℕ, zero, suc, _+_, _-_, _*_, _/_, _%_, _^_, _≤_, _<_}
-use native.Mathlib.Nat.{le-of-suc-le-suc, sub-le, lt-of-lt-of-le, le-add-right, mod-lt, le-refl, add-zero, zero-add, add-suc, suc-add, add-assoc, two-pow-succ, eq-or-lt-of-le, div-add-mod', sub-zero, suc-sub-suc, one-mul, add-comm, pow-succ', add-mul-div-right, add-mul-mod-self-left}
+use native.Mathlib.Nat.{le-of-suc-le-suc, sub-le, lt-of-lt-of-le, le-add-right, mod-lt, le-refl, add-zero, zero-add, add-suc, suc-add, add-assoc}
+use native.Mathlib.Nat.{two-pow-succ, eq-or-lt-of-le, div-add-mod', sub-zero, suc-sub-suc, one-mul, add-comm, pow-succ', add-mul-div-right}
+use native.Mathlib.Nat.{add-mul-mod-self-left}
 use native.Mathlib.Omega.{arith}
 use lib.Dec.{ltb, leb, eqb, lit<}
 use lib.ListN.{length, take, getD}
@@ -28,7 +30,9 @@ pub bit-top : (h x : ℕ) → x < 2 ^ h → bit h (2 ^ h + x) ≡ true
 bit-top h x m = ap (λ (q : ℕ). eqb (q % 2) 1) (ap (λ (z : ℕ). (z + x) / 2 ^ h) (sym (one-mul (2 ^ h))) ∙ high 1 h m)
 
 pub bit-under : (h x k : ℕ) → x < 2 ^ h → k < h → bit k (2 ^ h + x) ≡ bit k x
-bit-under h x k m l = ap (λ (r : ℕ). eqb r 1) (ap (λ (q : ℕ). q % 2) shifted ∙ (ap (λ (z : ℕ). (x / 2 ^ k + z) % 2) (pow-succ' 2 (h - suc k)) ∙ add-mul-mod-self-left (x / 2 ^ k) 2 (2 ^ (h - suc k))))
+bit-under h x k m l =
+    ap (λ (r : ℕ). eqb r 1) (ap (λ (q : ℕ). q % 2) shifted
+    ∙ (ap (λ (z : ℕ). (x / 2 ^ k + z) % 2) (pow-succ' 2 (h - suc k)) ∙ add-mul-mod-self-left (x / 2 ^ k) 2 (2 ^ (h - suc k))))
   where
     parted : h ≡ suc (h - suc k) + k
     parted = omega arith
@@ -112,12 +116,12 @@ F-above (suc W) (suc h) pos = omega (arith, F-above (suc W) h pos, a-pos W h)
 -- ---- the gap rule with a step more
 
 module _ (W : ℕ) (pos : 0 < W) where
-  pub gaps-grow : (h x : ℕ) → x < 2 ^ h → Gaps W (suc h) x ↔ Gaps W h x
-  gaps-grow h x m = (less, more)
-    where
-      less : Gaps W (suc h) x → Gaps W h x
-      less g = record { lowest = λ l b. g .lowest l (omega arith); neighbours = λ k l b c. g .neighbours k l b (omega arith) }
+  pub gaps-less : (h x : ℕ) → Gaps W (suc h) x → Gaps W h x
+  gaps-less h x g = record { lowest = λ l b. g .lowest l (omega arith); neighbours = λ k l b c. g .neighbours k l b (omega arith) }
 
+  pub gaps-grow : (h x : ℕ) → x < 2 ^ h → Gaps W (suc h) x ↔ Gaps W h x
+  gaps-grow h x m = (gaps-less h x, more)
+    where
       within : (l : ℕ) → l < suc h → bit l x ≡ true → l < h
       within l b set = ⊎-elim (λ e. clash set (ap (λ (k : ℕ). bit k x) e ∙ bit-above h x m)) (λ c. c) (below-suc b)
 
@@ -158,7 +162,10 @@ module _ (W : ℕ) (pos : 0 < W) where
           gap far lt (inr r) =
               ⊎-elim
               (λ above. clash (r .2) (bit-above (r .0) x (lt-of-lt-of-le lt (pow-mono above))))
-              (λ below. omega (arith, g .neighbours (r .0) h (r .1) (omega arith) (low (r .0) true (r .1) (r .2)) (bit-top h x m) (λ j d e. low j false e (r .3 j d e))))
+              (λ below. omega (
+                arith,
+                g .neighbours (r .0) h (r .1) (omega arith) (low (r .0) true (r .1) (r .2)) (bit-top h x m) (λ j d e. low j false e (r .3 j d e)),
+              ))
               (le-or-lt (h - W) (r .0))
 
       above : Gaps W h x × ((h < W) ⊎ (2 ^ (h - W) ≤ x)) → Gaps W (suc h) (2 ^ h + x)
@@ -258,9 +265,11 @@ module _ (W : ℕ) (pos : 0 < W) (u : ℕ → ℕ → Bool) (tells : (h x : ℕ)
         at (λ x. tally (u h x)),
         total-same (λ x. tally (u (suc h) (2 ^ h + x))) (λ x. 0) (upFrom 0 g) (λ x m. ap tally (top-lost h x l (omega (arith, upFrom-bounds x 0 g m)))),
         total-none (upFrom 0 g),
-        total-same (λ x. tally (u h x)) (λ x. tally (u (h - W) x)) (upFrom 0 g) (λ x m. ap tally (ap (λ (k : ℕ). u k x) whole ∙ grows-to W (h - W) x (omega (arith, upFrom-bounds x 0 g m)))),
+        total-same (λ x. tally (u h x)) (λ x. tally (u (h - W) x)) (upFrom 0 g)
+            (λ x m. ap tally (ap (λ (k : ℕ). u k x) whole ∙ grows-to W (h - W) x (omega (arith, upFrom-bounds x 0 g m)))),
         total-same (λ x. tally (u (suc h) (2 ^ h + x))) (λ x. tally (u h x)) (upFrom (0 + g) (2 ^ h - g))
-            (λ x m. ap tally (top-kept h x (omega (arith, upFrom-bounds x (0 + g) (2 ^ h - g) m, fits)) (inr (omega (arith, upFrom-bounds x (0 + g) (2 ^ h - g) m))))),
+            (λ x m. ap tally (top-kept h x (omega (arith, upFrom-bounds x (0 + g) (2 ^ h - g) m, fits))
+            (inr (omega (arith, upFrom-bounds x (0 + g) (2 ^ h - g) m))))),
       )
     where
       g : ℕ

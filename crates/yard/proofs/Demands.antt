@@ -1,235 +1,286 @@
 -- The demands, as theorems on the calls' outcomes: what a customer may rely on.
-use mathlib.Core.Path.{_≡_, refl, sym, ap, _∙_, subst}
-use mathlib.Core.Logic.{_⊎_, inl, inr, ⊎-elim, _↔_}
-use mathlib.Core.Bool.{Bool, true, false, _&&_}
+use Prim.Native.Nat.{ℕ, suc, _≤_, _<_}
+use mathlib.Core.Path.{_≡_, refl, sym, ap, _∙_}
+use mathlib.Core.Logic.{_⊎_, _↔_}
 use mathlib.Core.List.{List, [], _∷_, _++_}
-use Prim.Native.Nat.{ℕ, zero, suc, _+_, _-_, _≤_, _<_, _^_}
-use native.Mathlib.Nat.{le-refl, le-trans}
 use native.Mathlib.Omega.{arith}
-use lib.Dec.{leb, ltb, eqb}
-use lib.ListN.{length, take, drop}
-use borrow.Author.Tests.{leb-true, le-leb, eqb-true, eq-eqb, leb-false, lt-leb}
+use lib.ListN.{length}
 use Rattle.yard.specs.declared.Answer.{Answer}
-use Rattle.yard.specs.Limits.{Limits, limits}
-use Rattle.yard.specs.Night.{Night, Plan, cars, sum, itemOf}
-use Rattle.yard.specs.Words.{first}
-use Rattle.yard.specs.Replay.{yardAt, passes, firstEarly, lowestEarly, firstOverfull, pullSize, fullestPull, inOrder}
+use Rattle.yard.specs.Limits.{Limits}
+use Rattle.yard.specs.Night.{Night, Plan}
+use Rattle.yard.specs.Replay.{yardAt, passes, fullestPull, pullSize}
 use Rattle.yard.specs.Derived.{stepsNeeded, derivedCodes, derivedPlan}
-use Rattle.yard.specs.Answers.{says, test, emptyTrain, firstBad, unruled, countTest, trainTest, sumTest, inboundTest, listTest, limitTest, roomTest, codeTest, wideCode, earlyTest, orderTest}
-use Rattle.yard.specs.Calls.{countTests, nightCounts, nightTests, deriveTests, deriveAnswer, checkTests, checkAnswer, replayTests, replayAnswer, Derives, Checks, Replays}
-use Rattle.yard.specs.Demands.{Within, NoneEmpty, EachOnce, CodesBelow, NeverEarly, HasRoom, BuildsTrains, Listed, CodesFormed, Sorts, Sortable, Reason, AllHold, FirstFails, must, rangeReasons, countReasons, nightReasons, deriveReasons, checkReasons, replayReasons}
+use Rattle.yard.specs.Demands.{Least, Within, InLimits, Listed, Given, CodesFormed, HasRoom, Sorts, Sortable, OverfullStep}
+use Rattle.yard.specs.Answers.{says, Ask, AllHold, FirstFails, countAsk, bufferAsk, limitAsk, roomAsk}
+use Rattle.yard.specs.Calls.{countAsks, listAsks, opening, deriveAsks, deriveTests, deriveAnswer, DeriveGiven, Derivable, Derives, checkOwn}
+use Rattle.yard.specs.Calls.{checkAsks, checkTests, checkAnswer, GoodPlan, Checks, replayOwn, replayAsks, replayTests, replayAnswer, Replayable}
+use Rattle.yard.specs.Calls.{Replays}
 use Rattle.yard.proofs.Verdict.{verdict-done}
-use Rattle.yard.proofs.Tests.{asks, count-passed, sum-passed, list-passed, none-passed}
-use Rattle.yard.proofs.Formed.{train-passed, inbound-passed}
-use Rattle.yard.proofs.Plans.{InRange, range-once, early-passed, room-passed}
-use Rattle.yard.proofs.Building.{order-passed}
+use Rattle.yard.proofs.Plans.{range-once}
 use Rattle.yard.proofs.Least.{least-steps}
 use Rattle.yard.proofs.DerivedPlan.{derived-sorts}
-use Rattle.yard.proofs.Reasons.{Agrees, Agree, agree-append, accepted-exactly, refused-exactly, Unnamed, fails-past}
+use Rattle.yard.proofs.Asks.{Sound, holds-append, sound-append, accepted-exactly, refused-exactly, refused-at}
+use Rattle.yard.proofs.Rights.{count-right, length-right, buffer-right, train-right, sum-right, inbound-right, code-right, early-right}
+use Rattle.yard.proofs.Rights.{room-right, overfull-full, order-right, limit-right}
 
--- ---- each test agrees with its reason
+-- ---- what the opening asks yields, by name
 
-pub agrees : (b : Bool) (k a c : ℕ) (P : Type 0) → ((test b (says (suc k) a c) .number ≡ 0) ↔ P) → Agrees (test b (says (suc k) a c)) (must (suc k) P)
-agrees b k a c P e = record { exactly = e; number = named b }
-  where
-    named : (b : Bool) → (test b (says (suc k) a c) .number ≡ 0 → ⊥) → test b (says (suc k) a c) .number ≡ suc k
-    named true n = absurd (n refl)
-    named false n = refl
-
-count-agrees : (a low high x : ℕ) → Agrees (countTest a low high x) (must 1 (Within low high x))
-count-agrees a low high x = agrees (leb low x && leb x high) 0 a 0 (Within low high x) (count-passed a low high x)
-
-list-agrees : (a : ℕ) (ok : Bool) (P : Type 0) → ((ok ≡ true) ↔ P) → Agrees (listTest a ok) (must 4 P)
-list-agrees a ok P e = agrees ok 3 a 0 P (λ t. e .0 (list-passed a ok .0 t), λ h. list-passed a ok .1 (e .1 h))
-
-pub ranges-agree : (L : Limits) (n m W C h : ℕ) → Agree (countTests L n m W C h) (rangeReasons L n m W C h)
-ranges-agree L n m W C h = (
-  count-agrees 1 1 (L .cars) n,
-  λ _. (count-agrees 2 1 (L .trains) m, λ _. (count-agrees 3 1 (L .tracks) W, λ _. (count-agrees 4 1 (L .room) C, λ _. (count-agrees 5 0 (L .steps) h, λ _. tt)))),
-)
-
-night-agrees : (n : Night) → Agree (nightTests n) (nightReasons n)
-night-agrees n = (
-  agrees (ltb (length (n .lengths)) (emptyTrain (n .lengths))) 1 (emptyTrain (n .lengths)) 0 (NoneEmpty (n .lengths)) (train-passed (n .lengths)),
+pub counts-sound : (L : Limits) (n m W C h : ℕ) → Sound (countAsks L n m W C h)
+counts-sound L n m W C h = (
+  count-right 1 1 (L .cars) n,
   λ _. (
-    agrees (eqb (sum (n .lengths)) (length (n .inbound))) 1 0 0 (sum (n .lengths) ≡ length (n .inbound)) (sum-passed (n .lengths) (length (n .inbound))),
-    λ _. (agrees (ltb (length (n .inbound)) (firstBad (n .inbound))) 2 (firstBad (n .inbound)) 0 (EachOnce (n .inbound)) (inbound-passed (n .inbound)), λ _. tt),
+    count-right 2 1 (L .trains) m,
+    λ _. (count-right 3 1 (L .tracks) W, λ _. (count-right 4 1 (L .room) C, λ _. (count-right 5 0 (L .steps) h, λ _. tt))),
   ),
 )
 
-pub codes-passed : (h : ℕ) (codes : List ℕ) → (codeTest h codes .number ≡ 0) ↔ CodesBelow h codes
-codes-passed h codes = (
-  λ e car w. leb-false (2 ^ h) (itemOf codes car) (none .0 e car (w .0) (w .1)),
-  λ f. none .1 (λ car l m. lt-leb (2 ^ h) (itemOf codes car) (f car (l, m))),
+pub counts-hold : (L : Limits) (n m W C h : ℕ) → AllHold (countAsks L n m W C h) ↔ InLimits L n m W C h
+counts-hold L n m W C h = (
+  λ (cars, more).
+      let (trains, more) = more in
+      let (tracks, more) = more in
+      let (room, more) = more in
+      record { cars = cars; trains = trains; tracks = tracks; room = room; steps = more .0 },
+  λ c. (c .cars, (c .trains, (c .tracks, (c .room, (c .steps, tt))))),
 )
-  where
-    none : (codeTest h codes .number ≡ 0) ↔ ((j : ℕ) → 1 ≤ j → j ≤ length codes → leb (2 ^ h) (itemOf codes j) ≡ false)
-    none = none-passed (λ car. leb (2 ^ h) (itemOf codes car)) (length codes) 6 (wideCode h codes) 0
 
-pub codes-agree : (h : ℕ) (codes : List ℕ) → Agrees (codeTest h codes) (must 7 (CodesBelow h codes))
-codes-agree h codes = agrees (ltb (length codes) (wideCode h codes)) 6 (wideCode h codes) 0 (CodesBelow h codes) (codes-passed h codes)
+pub lists-sound : (n : Night) → Sound (listAsks n)
+lists-sound n =
+    (train-right (n .lengths), λ _. (sum-right (n .lengths) (length (n .inbound)), λ _. (inbound-right (n .inbound), λ _. tt)))
 
-early-agrees : (p : Plan) → EachOnce (p .night .inbound) → Agrees (earlyTest p) (must 8 (NeverEarly p))
-early-agrees p once = agrees (leb (p .steps) (firstEarly p)) 7 (lowestEarly p (firstEarly p)) (firstEarly p) (NeverEarly p) (early-passed p (range-once (p .night .inbound) once))
-
-room-agrees : (p : Plan) → Agrees (roomTest p) (must 6 (HasRoom p))
-room-agrees p = agrees (leb (p .steps) (firstOverfull p)) 5 (firstOverfull p) (pullSize p (firstOverfull p)) (HasRoom p) (room-passed p)
-
-order-agrees : (p : Plan) → Agrees (orderTest p) (must 9 (BuildsTrains p))
-order-agrees p = agrees (inOrder p) 8 (suc (first (unruled p) (length (p .night .inbound) - 1) 1)) 0 (BuildsTrains p) (order-passed p)
-
--- a limit is passed exactly if some plan that builds the trains keeps to it
-limit-agrees : (n : Night) (limit : ℕ) → 1 ≤ length (n .lengths) → 1 ≤ n .tracks → Listed (n .lengths) (n .inbound) → Agrees (limitTest (stepsNeeded n) limit) (must 5 (Sortable n limit))
-unfolding derivedPlan
-limit-agrees n limit some pos f = agrees (leb (stepsNeeded n) limit) 4 (stepsNeeded n) 0 (Sortable n limit) (
-  λ e. record { steps = stepsNeeded n; codes = derivedCodes n; within = leb-true (stepsNeeded n) limit (passed .0 e); sorts = derived-sorts n f pos },
-  λ s. passed .1 (le-leb (stepsNeeded n) limit (le-trans (least-steps (record { night = n; steps = s .steps; codes = s .codes }) f pos (s .sorts) some) (s .within))),
+pub lists-hold : (n : Night) → AllHold (listAsks n) ↔ Listed (n .lengths) (n .inbound)
+lists-hold n = (
+  λ (nonempty, more). let (adds, more) = more in record { nonempty = nonempty; adds = adds; once = more .0 },
+  λ l. (l .nonempty, (l .adds, (l .once, tt))),
 )
-  where
-    passed : (limitTest (stepsNeeded n) limit .number ≡ 0) ↔ (leb (stepsNeeded n) limit ≡ true)
-    passed = asks (leb (stepsNeeded n) limit) 4 (stepsNeeded n) 0
 
--- ---- demand 1: every refusal by its number, exactly where its reason holds and no earlier one does
+module _ (L : Limits) (n : Night) (h : ℕ) (counts others : List Ask) where
+  abbrev nightCounted : List Ask
+  nightCounted = countAsks L (length (n .inbound)) (length (n .lengths)) (n .tracks) (n .room) h
 
--- the tests that begin every call, and those that follow
-pub counts-then : (L : Limits) (n : Night) (h : ℕ) (us : List Answer) (ss : List Reason) → (AllHold (countReasons L n h) → Agree us ss) → Agree (nightCounts L n h ++ us) (countReasons L n h ++ ss)
-counts-then L n h us ss rest = agree-append (nightCounts L n h) us (countReasons L n h) ss (ranges-agree L (length (n .inbound)) (length (n .lengths)) (n .tracks) (n .room) h) rest
+  abbrev night-counts-hold : AllHold nightCounted ↔ InLimits L (length (n .inbound)) (length (n .lengths)) (n .tracks) (n .room) h
+  night-counts-hold = counts-hold L (length (n .inbound)) (length (n .lengths)) (n .tracks) (n .room) h
 
-pub night-then : (n : Night) (us : List Answer) (ss : List Reason) → (Listed (n .lengths) (n .inbound) → Agree us ss) → Agree (nightTests n ++ us) (nightReasons n ++ ss)
-night-then n us ss rest = agree-append (nightTests n) us (nightReasons n) ss (night-agrees n) (λ h. rest (record { nonempty = h .0; adds = h .1 .0; once = h .1 .1 .0 }))
+  -- a list of asks that begins as every call does is sound where the rest is, which may rest on the night
+  pub opening-sound : Sound counts → (Given L n h → Sound others) → Sound (opening L n h counts others)
+  opening-sound own rest =
+      sound-append nightCounted (counts ++ (listAsks n ++ others)) (counts-sound L (length (n .inbound)) (length (n .lengths)) (n .tracks) (n .room) h)
+      (λ counted.
+      sound-append counts (listAsks n ++ others) own
+      (λ _.
+      sound-append (listAsks n) others (lists-sound n) (λ listed. rest (record { counts = night-counts-hold .0 counted; lists = lists-hold n .0 listed }))))
 
-pub codes-length-agrees : (p : Plan) → Agrees (listTest 3 (eqb (length (p .codes)) (length (p .night .inbound)))) (must 4 (length (p .codes) ≡ length (p .night .inbound)))
-codes-length-agrees p = list-agrees 3 (eqb i j) (i ≡ j) (eqb-true i j, eq-eqb i j)
-  where
-    i : ℕ
-    i = length (p .codes)
+  pub opening-holds : AllHold (opening L n h counts others) ↔ (Given L n h × AllHold counts × AllHold others)
+  opening-holds = (
+    λ all.
+        let (counted, more) = holds-append nightCounted (counts ++ (listAsks n ++ others)) .0 all in
+        let (own, more) = holds-append counts (listAsks n ++ others) .0 more in
+        let (listed, rest) = holds-append (listAsks n) others .0 more in
+        (record { counts = night-counts-hold .0 counted; lists = lists-hold n .0 listed }, own, rest),
+    λ (given, own, rest).
+        holds-append nightCounted (counts ++ (listAsks n ++ others)) .1 (
+          night-counts-hold .1 (given .counts),
+          holds-append counts (listAsks n ++ others) .1 (own, holds-append (listAsks n) others .1 (lists-hold n .1 (given .lists), rest)),
+        ),
+  )
 
-    j : ℕ
-    j = length (p .night .inbound)
-
-pub buffer-agrees : (a i j : ℕ) → Agrees (listTest a (leb i j)) (must 4 (i ≤ j))
-buffer-agrees a i j = list-agrees a (leb i j) (i ≤ j) (leb-true i j, le-leb i j)
-
-derive-agrees : (L : Limits) (n : Night) (limit size : ℕ) → Agree (deriveTests L n limit size) (deriveReasons L n limit size)
-derive-agrees L n limit size =
-    counts-then L n limit (drop 5 (deriveTests L n limit size)) (drop 5 (deriveReasons L n limit size))
-    (λ counts.
-    night-then n (drop 8 (deriveTests L n limit size)) (drop 8 (deriveReasons L n limit size))
-    (λ f. (buffer-agrees 3 (length (n .inbound)) size, λ _. (limit-agrees n limit (counts .1 .0 .0) (counts .1 .1 .0 .0) f, λ _. (room-agrees (derivedPlan n), λ _. tt)))))
-
-check-agrees : (L : Limits) (p : Plan) → Agree (checkTests L p) (checkReasons L p)
-check-agrees L p =
-    counts-then L (p .night) (p .steps) (drop 5 (checkTests L p)) (drop 5 (checkReasons L p))
-    (λ _.
-    night-then (p .night) (drop 8 (checkTests L p)) (drop 8 (checkReasons L p))
-    (λ f. (
-      codes-length-agrees p,
-      λ _. (codes-agree (p .steps) (p .codes), λ _. (early-agrees p (f .once), λ _. (room-agrees p, λ _. (order-agrees p, λ _. tt)))),
-    )))
-
-replay-agrees : (L : Limits) (p : Plan) (stage trackSize placeSize : ℕ) → Agree (replayTests L p stage trackSize placeSize) (replayReasons L p stage trackSize placeSize)
-replay-agrees L p stage trackSize placeSize =
-    counts-then L (p .night) (p .steps) (drop 5 tests) (drop 5 reasons)
-    (λ _. (
-      count-agrees 6 0 (p .steps) stage,
-      λ _.
-          night-then (p .night) (drop 9 tests) (drop 9 reasons)
-          (λ f. (
-            codes-length-agrees p,
-            λ _. (
-              buffer-agrees 4 (length (p .night .inbound)) trackSize,
-              λ _. (buffer-agrees 5 (length (p .night .inbound)) placeSize, λ _. (codes-agree (p .steps) (p .codes), λ _. (early-agrees p (f .once), λ _. (room-agrees p, λ _. tt)))),
-            ),
-          )),
-    ))
-  where
-    tests : List Answer
-    tests = replayTests L p stage trackSize placeSize
-
-    reasons : List Reason
-    reasons = replayReasons L p stage trackSize placeSize
+-- ---- demands 1 and 2: check
 
 module _ (L : Limits) (p : Plan) where
-  check-done : Answer
+  abbrev check-done : Answer
   check-done = says 0 (passes p (p .steps)) (fullestPull p)
 
-  -- check accepts exactly if lists and codes are well formed and the replay pulls no car early, overfills no track and builds every train in order
-  pub check-accepts-exactly : (checkAnswer L p .number ≡ 0) ↔ AllHold (checkReasons L p)
-  unfolding checkAnswer check-done
-  check-accepts-exactly = accepted-exactly check-done refl (checkTests L p) (checkReasons L p) (check-agrees L p)
+  check-sound : Sound (checkAsks L p)
+  check-sound =
+      opening-sound L (p .night) (p .steps) [] (checkOwn p) tt
+      (λ given. (
+        length-right 3 (length (p .codes)) (length (p .night .inbound)),
+        λ each. (
+          code-right (p .steps) (p .codes),
+          λ below. (
+            early-right p (range-once (p .night .inbound) (given .lists .once)),
+            λ never. (
+              room-right p,
+              λ _. (order-right p (given .lists) (record { each = each; below = below }) never (given .counts .cars .0), λ _. tt),
+            ),
+          ),
+        ),
+      ))
 
-  pub check-refuses-exactly : (k : ℕ) → 0 < k → (checkAnswer L p .number ≡ k) ↔ FirstFails k (checkReasons L p)
-  unfolding checkAnswer check-done
-  check-refuses-exactly k pos = refused-exactly check-done refl k pos (checkTests L p) (checkReasons L p) (check-agrees L p)
+  check-holds : AllHold (checkAsks L p) ↔ GoodPlan L p
+  check-holds =
+      let opened = opening-holds L (p .night) (p .steps) [] (checkOwn p) in (
+        λ all.
+            let (given, _, more) = opened .0 all in
+            let (each, more) = more in
+            let (below, more) = more in
+            let (never, more) = more in
+            let (room, more) = more in
+            record { given = given; each = each; below = below; never = never; room = room; builds = more .0 },
+        λ g. opened .1 (g .given, tt, (g .each, (g .below, (g .never, (g .room, (g .builds, tt)))))),
+      )
+
+  -- check accepts exactly if lists and codes are well formed and the replay pulls no car early, overfills no track and builds
+  -- every train in order
+  pub check-accepts-exactly : (checkAnswer L p .number ≡ 0) ↔ GoodPlan L p
+  unfolding checkAnswer
+  check-accepts-exactly =
+      let exactly = accepted-exactly check-done refl (checkAsks L p) check-sound in
+      (λ e. check-holds .0 (exactly .0 e), λ g. exactly .1 (check-holds .1 g))
+
+  -- it refuses with k, A and B exactly if the first ask that does not hold has number k, and tells A and B
+  pub check-refuses-exactly : (k a b : ℕ) → 0 < k → (checkAnswer L p ≡ says k a b) ↔ FirstFails k a b (checkAsks L p)
+  unfolding checkAnswer
+  check-refuses-exactly k a b pos = refused-exactly check-done refl k a b pos (checkAsks L p) check-sound
+
+-- ---- demands 1 and 2: replay to a stage
 
 module _ (L : Limits) (p : Plan) (stage trackSize placeSize : ℕ) where
-  replay-done : Answer
+  abbrev replay-done : Answer
   replay-done = says 0 (passes p stage) 0
 
-  pub replay-accepts-exactly : (replayAnswer L p stage trackSize placeSize .number ≡ 0) ↔ AllHold (replayReasons L p stage trackSize placeSize)
-  unfolding replayAnswer replay-done
-  replay-accepts-exactly = accepted-exactly replay-done refl (replayTests L p stage trackSize placeSize) (replayReasons L p stage trackSize placeSize) (replay-agrees L p stage trackSize placeSize)
+  replay-sound : Sound (replayAsks L p stage trackSize placeSize)
+  replay-sound =
+      let n = length (p .night .inbound) in
+      opening-sound L (p .night) (p .steps) (countAsk 6 0 (p .steps) stage ∷ []) (replayOwn p trackSize placeSize) (count-right 6 0 (p .steps) stage, λ _. tt)
+      (λ given. (
+        length-right 3 (length (p .codes)) n,
+        λ _. (
+          buffer-right 4 n trackSize,
+          λ _. (
+            buffer-right 5 n placeSize,
+            λ _. (
+              code-right (p .steps) (p .codes),
+              λ _. (early-right p (range-once (p .night .inbound) (given .lists .once)), λ _. (room-right p, λ _. tt)),
+            ),
+          ),
+        ),
+      ))
 
-  pub replay-refuses-exactly : (k : ℕ) → 0 < k → (replayAnswer L p stage trackSize placeSize .number ≡ k) ↔ FirstFails k (replayReasons L p stage trackSize placeSize)
-  unfolding replayAnswer replay-done
-  replay-refuses-exactly k pos = refused-exactly replay-done refl k pos (replayTests L p stage trackSize placeSize) (replayReasons L p stage trackSize placeSize) (replay-agrees L p stage trackSize placeSize)
+  replay-holds : AllHold (replayAsks L p stage trackSize placeSize) ↔ Replayable L p stage trackSize placeSize
+  replay-holds =
+      let opened = opening-holds L (p .night) (p .steps) (countAsk 6 0 (p .steps) stage ∷ []) (replayOwn p trackSize placeSize) in (
+        λ all.
+            let (given, own, more) = opened .0 all in
+            let (each, more) = more in
+            let (tracks, more) = more in
+            let (places, more) = more in
+            let (below, more) = more in
+            let (never, more) = more in
+            record { given = given; reached = own .0; each = each; tracks = tracks; places = places; below = below; never = never; room = more .0 },
+        λ r. opened .1 (r .given, (r .reached, tt), (r .each, (r .tracks, (r .places, (r .below, (r .never, (r .room, tt))))))),
+      )
+
+  pub replay-accepts-exactly : (replayAnswer L p stage trackSize placeSize .number ≡ 0) ↔ Replayable L p stage trackSize placeSize
+  unfolding replayAnswer
+  replay-accepts-exactly =
+      let exactly = accepted-exactly replay-done refl (replayAsks L p stage trackSize placeSize) replay-sound in
+      (λ e. replay-holds .0 (exactly .0 e), λ r. exactly .1 (replay-holds .1 r))
+
+  pub replay-refuses-exactly : (k a b : ℕ) → 0 < k
+      → (replayAnswer L p stage trackSize placeSize ≡ says k a b) ↔ FirstFails k a b (replayAsks L p stage trackSize placeSize)
+  unfolding replayAnswer
+  replay-refuses-exactly k a b pos = refused-exactly replay-done refl k a b pos (replayAsks L p stage trackSize placeSize) replay-sound
+
+-- ---- demand 3: the bill is the least there is
+
+-- Room aside, and whatever the limit: for every well-formed night the derived plan builds all the trains, and no plan with fewer
+-- steps does, whatever codes it gives.
+pub record LeastPlan (n : Night) (p : Plan) : Type 0 where
+  pub same : p .night ≡ n
+  pub sorts : Sorts p
+  pub least : (h : ℕ) (codes : List ℕ) → Sorts (record { night = n; steps = h; codes = codes }) → p .steps ≤ h
+
+pub derived-least : (L : Limits) (n : Night) (limit : ℕ) → Given L n limit → LeastPlan n (derivedPlan n)
+unfolding derivedPlan
+derived-least L n limit g =
+    record {
+      same = refl;
+      sorts = derived-sorts n (g .lists) (g .counts .tracks .0);
+      least = λ h codes s. least-steps (record { night = n; steps = h; codes = codes }) (g .lists) (g .counts .tracks .0) s (g .counts .trains .0);
+    }
 
 module _ (L : Limits) (n : Night) (limit size : ℕ) where
-  derive-done : Answer
+  abbrev derive-done : Answer
   derive-done = says 0 (stepsNeeded n) (passes (derivedPlan n) (stepsNeeded n))
 
-  pub derive-accepts-exactly : (deriveAnswer L n limit size .number ≡ 0) ↔ AllHold (deriveReasons L n limit size)
-  unfolding deriveAnswer derive-done
-  derive-accepts-exactly = accepted-exactly derive-done refl (deriveTests L n limit size) (deriveReasons L n limit size) (derive-agrees L n limit size)
+  derive-sound : Sound (deriveAsks L n limit size)
+  derive-sound =
+      opening-sound L n limit [] (bufferAsk 3 (length (n .inbound)) size ∷ limitAsk n limit ∷ roomAsk (derivedPlan n) ∷ []) tt
+      (λ given. (
+        buffer-right 3 (length (n .inbound)) size,
+        λ _. (limit-right n limit (given .counts .trains .0) (given .counts .tracks .0) (given .lists), λ _. (room-right (derivedPlan n), λ _. tt)),
+      ))
 
-  pub derive-refuses-exactly : (k : ℕ) → 0 < k → (deriveAnswer L n limit size .number ≡ k) ↔ FirstFails k (deriveReasons L n limit size)
-  unfolding deriveAnswer derive-done
-  derive-refuses-exactly k pos = refused-exactly derive-done refl k pos (deriveTests L n limit size) (deriveReasons L n limit size) (derive-agrees L n limit size)
+  -- what is asked before the limit
+  abbrev first-asks : List Ask
+  first-asks = opening L n limit [] (bufferAsk 3 (length (n .inbound)) size ∷ [])
 
-  -- ---- demand 3: the bill is the least there is
-
-  -- what derive asks before it looks at the limit
-  abbrev pub wellGiven : List Reason
-  wellGiven = take 9 (deriveReasons L n limit size)
-
-  -- a limit is refused exactly if no plan that builds the trains keeps to it, whatever its codes
-  pub derive-limit-exactly : (deriveAnswer L n limit size .number ≡ 5) ↔ (AllHold wellGiven × (Sortable n limit → ⊥))
-  derive-limit-exactly = (
-    λ e. let f = past .0 (derive-refuses-exactly 5 (omega arith) .0 e) in (f .0, none (f .1)),
-    λ h. derive-refuses-exactly 5 (omega arith) .1 (past .1 (h .0, inl (h .1, refl))),
-  )
-    where
-      past : FirstFails 5 (deriveReasons L n limit size) ↔ (AllHold wellGiven × FirstFails 5 (drop 9 (deriveReasons L n limit size)))
-      past = fails-past 5 wellGiven (drop 9 (deriveReasons L n limit size)) (omega arith)
-
-      none : FirstFails 5 (drop 9 (deriveReasons L n limit size)) → Sortable n limit → ⊥
-      none (inl f) s = f .0 s
-      none (inr f) s = ⊎-elim (λ g. omega (arith, g .1)) (λ g. g .1) (f .1)
-
-  -- room is refused exactly if the derived plan's replay overfills a track, and only where the limit can be kept
-  pub derive-room-exactly : (deriveAnswer L n limit size .number ≡ 6) ↔ (AllHold wellGiven × Sortable n limit × (HasRoom (derivedPlan n) → ⊥))
-  derive-room-exactly = (
-    λ e. let f = past .0 (derive-refuses-exactly 6 (omega arith) .0 e) in full (f .0) (f .1),
-    λ h. derive-refuses-exactly 6 (omega arith) .1 (past .1 (h .0, inr (h .1, inl (h .2, refl)))),
-  )
-    where
-      past : FirstFails 6 (deriveReasons L n limit size) ↔ (AllHold wellGiven × FirstFails 6 (drop 9 (deriveReasons L n limit size)))
-      past = fails-past 6 wellGiven (drop 9 (deriveReasons L n limit size)) (omega arith)
-
-      full : AllHold wellGiven → FirstFails 6 (drop 9 (deriveReasons L n limit size)) → AllHold wellGiven × Sortable n limit × (HasRoom (derivedPlan n) → ⊥)
-      full h (inl f) = absurd (omega (arith, f .1))
-      full h (inr f) = (h, f .0, ⊎-elim (λ g. g .0) (λ g. absurd (g .1)) (f .1))
-
-  -- where derive answers, the derived plan builds all the trains, no plan with fewer pull-outs does, and it reports that many steps and the cars that rolled in, counted one by one
-  pub derive-least : deriveAnswer L n limit size .number ≡ 0 → Sorts (derivedPlan n) × ((h : ℕ) (codes : List ℕ) → Sorts (record { night = n; steps = h; codes = codes }) → stepsNeeded n ≤ h) × (deriveAnswer L n limit size ≡ says 0 (derivedPlan n .steps) (yardAt (derivedPlan n) (derivedPlan n .steps) .rolled))
-  unfolding deriveAnswer derivedPlan passes
-  derive-least e =
-      let h = derive-accepts-exactly .0 e in
-      let f : Listed (n .lengths) (n .inbound) = record { nonempty = h .1 .1 .1 .1 .1 .0; adds = h .1 .1 .1 .1 .1 .1 .0; once = h .1 .1 .1 .1 .1 .1 .1 .0 } in (
-        derived-sorts n f (h .1 .1 .0 .0),
-        λ steps codes s. least-steps (record { night = n; steps = steps; codes = codes }) f (h .1 .1 .0 .0) s (h .1 .0 .0),
-        verdict-done (deriveTests L n limit size) (says 0 (stepsNeeded n) (passes (derivedPlan n) (stepsNeeded n))) e,
+  first-hold : AllHold first-asks ↔ DeriveGiven L n limit size
+  first-hold =
+      let opened = opening-holds L n limit [] (bufferAsk 3 (length (n .inbound)) size ∷ []) in (
+        λ all. let (given, _, more) = opened .0 all in record { given = given; buffer = more .0 },
+        λ g. opened .1 (g .given, tt, (g .buffer, tt)),
       )
+
+  derive-holds : AllHold (deriveAsks L n limit size) ↔ Derivable L n limit size
+  derive-holds =
+      let parted = holds-append first-asks (limitAsk n limit ∷ roomAsk (derivedPlan n) ∷ []) in (
+        λ all.
+            let (front, more) = parted .0 all in
+            let (sortable, more) = more in
+            record { given = first-hold .0 front; sortable = sortable; room = more .0 },
+        λ d. parted .1 (first-hold .1 (d .given), (d .sortable, (d .room, tt))),
+      )
+
+  pub derive-accepts-exactly : (deriveAnswer L n limit size .number ≡ 0) ↔ Derivable L n limit size
+  unfolding deriveAnswer
+  derive-accepts-exactly =
+      let exactly = accepted-exactly derive-done refl (deriveAsks L n limit size) derive-sound in
+      (λ e. derive-holds .0 (exactly .0 e), λ d. exactly .1 (derive-holds .1 d))
+
+  pub derive-refuses-exactly : (k a b : ℕ) → 0 < k → (deriveAnswer L n limit size ≡ says k a b) ↔ FirstFails k a b (deriveAsks L n limit size)
+  unfolding deriveAnswer
+  derive-refuses-exactly k a b pos = refused-exactly derive-done refl k a b pos (deriveAsks L n limit size) derive-sound
+
+  -- a limit is refused exactly if no plan that builds the trains keeps to it, whatever its codes; A is the least limit that one keeps to
+  pub derive-limit-exactly : (a b : ℕ)
+      → (deriveAnswer L n limit size ≡ says 5 a b) ↔ (DeriveGiven L n limit size × (Sortable n limit → ⊥) × Least (Sortable n) a × (b ≡ 0))
+  unfolding deriveAnswer
+  derive-limit-exactly a b =
+      let exactly =
+      refused-at derive-done refl first-asks (limitAsk n limit) (roomAsk (derivedPlan n) ∷ []) (omega arith) derive-sound
+      (omega arith) (omega arith) a b in (
+        λ e. let (front, none, told) = exactly .0 e in (first-hold .0 front, none, told .0, told .1),
+        λ (given, none, least, zero-b). exactly .1 (first-hold .1 given, none, (least, zero-b)),
+      )
+
+  -- room is refused exactly if the derived plan's replay overfills a track, and only where the limit can be kept; A is the first
+  -- step that does, B what it finds there
+  pub derive-room-exactly : (a b : ℕ)
+      → (deriveAnswer L n limit size ≡ says 6 a b) ↔
+      (DeriveGiven L n limit size × Sortable n limit × Least (OverfullStep (derivedPlan n)) a × (b ≡ pullSize (derivedPlan n) a))
+  unfolding deriveAnswer
+  derive-room-exactly a b =
+      let before = first-asks ++ (limitAsk n limit ∷ []) in
+      let parted = holds-append first-asks (limitAsk n limit ∷ []) in
+      let exactly = refused-at derive-done refl before (roomAsk (derivedPlan n)) [] (omega arith) derive-sound (omega arith) tt a b in (
+        λ e.
+            let (front, none, told) = exactly .0 e in
+            let (given, sortable) = parted .0 front in
+            (first-hold .0 given, sortable .0, told .0, told .1),
+        λ (given, sortable, overfull, cars).
+            exactly .1 (parted .1 (first-hold .1 given, (sortable, tt)), overfull-full (derivedPlan n) a (overfull .holds), (overfull, cars)),
+      )
+
+  -- where derive answers, it has derived that plan, and it reports its steps and the cars that rolled in, counted one by one
+  pub derive-least : deriveAnswer L n limit size .number ≡ 0
+      → LeastPlan n (derivedPlan n) × (deriveAnswer L n limit size ≡ says 0 (derivedPlan n .steps) (yardAt (derivedPlan n) (derivedPlan n .steps) .rolled))
+  unfolding deriveAnswer derivedPlan passes
+  derive-least e = (
+    derived-least L n limit (derive-accepts-exactly .0 e .given .given),
+    verdict-done (deriveTests L n limit size) derive-done e,
+  )
 
 -- ---- demand 3: reported passes are the cars that roll in the replay, counted one by one
 
@@ -237,18 +288,26 @@ pub check-reports : (L : Limits) (p : Plan) → checkAnswer L p .number ≡ 0 �
 unfolding checkAnswer passes
 check-reports L p e = verdict-done (checkTests L p) (says 0 (passes p (p .steps)) (fullestPull p)) e
 
-pub replay-reports : (L : Limits) (p : Plan) (stage trackSize placeSize : ℕ) → replayAnswer L p stage trackSize placeSize .number ≡ 0 → replayAnswer L p stage trackSize placeSize ≡ says 0 (yardAt p stage .rolled) 0
+pub replay-reports : (L : Limits) (p : Plan) (stage trackSize placeSize : ℕ)
+    → replayAnswer L p stage trackSize placeSize .number ≡ 0
+    → replayAnswer L p stage trackSize placeSize ≡ says 0 (yardAt p stage .rolled) 0
 unfolding replayAnswer passes
 replay-reports L p stage trackSize placeSize e = verdict-done (replayTests L p stage trackSize placeSize) (says 0 (passes p stage) 0) e
 
 -- ---- each call has one outcome for each input: one answer, and one content of every lent buffer
 
-pub derive-one : (n : Night) (limit : ℕ) (before : List ℕ) (r s : Answer) (after other : List ℕ) → Derives n limit before r after → Derives n limit before s other → (r ≡ s) × (after ≡ other)
+pub derive-one : (n : Night) (limit : ℕ) (before : List ℕ) (r s : Answer) (after other : List ℕ)
+    → Derives n limit before r after
+    → Derives n limit before s other
+    → (r ≡ s) × (after ≡ other)
 derive-one n limit before r s after other x y = (x .answer ∙ sym (y .answer), x .codes ∙ sym (y .codes))
 
 pub check-one : (p : Plan) (r s : Answer) → Checks p r → Checks p s → r ≡ s
 check-one p r s x y = x .answer ∙ sym (y .answer)
 
-pub replay-one : (p : Plan) (stage : ℕ) (tracks₀ places₀ : List ℕ) (r s : Answer) (tracks₁ tracks₂ places₁ places₂ : List ℕ) → Replays p stage tracks₀ places₀ r tracks₁ places₁ → Replays p stage tracks₀ places₀ s tracks₂ places₂ → (r ≡ s) × (tracks₁ ≡ tracks₂) × (places₁ ≡ places₂)
+pub replay-one : (p : Plan) (stage : ℕ) (tracks₀ places₀ : List ℕ) (r s : Answer) (tracks₁ tracks₂ places₁ places₂ : List ℕ)
+    → Replays p stage tracks₀ places₀ r tracks₁ places₁
+    → Replays p stage tracks₀ places₀ s tracks₂ places₂
+    → (r ≡ s) × (tracks₁ ≡ tracks₂) × (places₁ ≡ places₂)
 replay-one p stage tracks₀ places₀ r s tracks₁ tracks₂ places₁ places₂ x y =
     (x .answer ∙ sym (y .answer), x .tracks ∙ sym (y .tracks), x .places ∙ sym (y .places))

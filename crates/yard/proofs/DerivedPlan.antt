@@ -1,5 +1,5 @@
--- The derived plan: its codes are usable, rise at each break, and so pull no car early and build the trains.
-use mathlib.Core.Path.{_≡_, refl, sym, ap, ap₂, _∙_, subst}
+-- A plan by its codes, and the derived plan: its codes are usable, rise at each break, and so pull no car early and build the trains.
+use mathlib.Core.Path.{_≡_, sym, ap, ap₂, _∙_, subst}
 use mathlib.Core.Logic.{_⊎_, inl, inr, ⊎-elim}
 use mathlib.Core.Bool.{Bool, true, false, cond, not, _&&_}
 use mathlib.Core.List.{List, [], _∷_, map}
@@ -18,6 +18,7 @@ use Rattle.yard.specs.Answers.{ruled, unruled}
 use Rattle.yard.specs.Demands.{Within, Listed, CodesFormed, NeverEarly, BuildsTrains, Sorts}
 use Rattle.yard.proofs.Bools.{split, clash, and-left, and-right, not-so, not-true}
 use Rattle.yard.proofs.First.{first-le, first-hit}
+use Rattle.yard.proofs.Early.{Gaps}
 use Rattle.yard.proofs.Lists.{count-kept, count-upFrom-in, upFrom-bounds, length-upFrom}
 use Rattle.yard.proofs.Counting.{F-above}
 use Rattle.yard.proofs.Trains.{firstCar-suc, itemOf-suc, most-above, breaks-suc}
@@ -42,7 +43,8 @@ pub length-by-car : (g : ℕ → ℕ) (n : ℕ) → length (map g (cars n)) ≡ 
 length-by-car g n = length-map (cars n) g ∙ length-upFrom 1 n
 
 -- the numbers kept of those from a on pass, and rise
-pub kept-item : (p : ℕ → Bool) (a n q : ℕ) → q < length (keep p (upFrom a n)) → (p (getD (keep p (upFrom a n)) q 0) ≡ true) × (a ≤ getD (keep p (upFrom a n)) q 0) × (getD (keep p (upFrom a n)) q 0 < a + n)
+pub kept-item : (p : ℕ → Bool) (a n q : ℕ) → q < length (keep p (upFrom a n))
+    → (p (getD (keep p (upFrom a n)) q 0) ≡ true) × (a ≤ getD (keep p (upFrom a n)) q 0) × (getD (keep p (upFrom a n)) q 0 < a + n)
 kept-item p a n q m =
     let x : ℕ = getD (keep p (upFrom a n)) q 0 in
     let k = count-kept x p (upFrom a n) (omega (arith, count-at (keep p (upFrom a n)) q m)) in
@@ -66,6 +68,52 @@ kept-rising p a (suc n) q r l m = go (p a) q r l m (kept-rising p (suc a) n) (ke
     go true zero (suc r) l m later item = item r (omega arith) .1
     go true (suc q) zero l m later item = absurd (omega arith)
     go true (suc q) (suc r) l m later item = later q r (omega arith) (omega arith)
+
+-- ---- a plan by its codes
+
+-- the plan of h steps that gives each car of a night the code that g says
+abbrev pub coded : Night → ℕ → (ℕ → ℕ) → Plan
+coded n h g = record { night = n; steps = h; codes = map g (cars (length (n .inbound))) }
+
+module _ (n : Night) (f : Listed (n .lengths) (n .inbound)) (pos : 0 < n .tracks) (h : ℕ) (g : ℕ → ℕ) where
+  -- where the codes are below 2^h, keep their gaps and follow the rule on pairs, it sorts
+  pub coded-sorts : ((car : ℕ) → Within 1 (length (n .inbound)) car → (g car < 2 ^ h) × Gaps (n .tracks) h (g car))
+      → ((j : ℕ) → 1 ≤ j → j < length (n .inbound) → pair (n .lengths) j ≡ true → ruled (g j) (g (suc j)) (broken (n .inbound) j) ≡ true)
+      → Sorts (coded n h g)
+  coded-sorts fits rules = record { codes = formed; never = never; builds = builds-ruled (coded n h g) f formed never .1 follows }
+    where
+      code : (car : ℕ) → Within 1 (length (n .inbound)) car → g car ≡ codeOf (coded n h g) car
+      code car w = sym (by-car g (length (n .inbound)) car w)
+
+      sized : length (coded n h g .codes) ≡ length (n .inbound)
+      sized = length-by-car g (length (n .inbound))
+
+      formed : CodesFormed (coded n h g)
+      formed =
+          record {
+            each = sized;
+            below =
+                λ car w.
+                let v : Within 1 (length (n .inbound)) car = (w .0, omega (arith, w .1, sized)) in
+                subst (λ (c : ℕ). c < 2 ^ h) (code car v) (fits car v .0);
+          }
+
+      never : NeverEarly (coded n h g)
+      never =
+          never-gaps (coded n h g) pos .1
+          (λ car m.
+          let w : Within 1 (length (n .inbound)) car = came-within (n .lengths) (n .inbound) f car m in
+          subst (λ (c : ℕ). Gaps (n .tracks) h c) (code car w) (fits car w .1))
+
+      follows : (j : ℕ) → 1 ≤ j → j < length (n .inbound) → unruled (coded n h g) j ≡ false
+      follows j l m =
+          let rule : Bool = ruled (codeOf (coded n h g) j) (codeOf (coded n h g) (suc j)) (broken (n .inbound) j) in
+          not-so (unruled (coded n h g) j)
+          (λ e.
+          clash
+          (ap₂ (λ (x y : ℕ). ruled x y (broken (n .inbound) j)) (sym (code j (l, omega arith))) (sym (code (suc j) (omega arith, m))) ∙
+          rules j l m (and-left (pair (n .lengths) j) (not rule) e))
+          (not-true rule (and-right (pair (n .lengths) j) (not rule) e)))
 
 -- ---- code numbers
 
@@ -111,10 +159,12 @@ module _ (n : Night) (f : Listed (n .lengths) (n .inbound)) where
         ap (λ (t : ℕ). breaks (n .inbound) (firstCar (n .lengths) t) (car - firstCar (n .lengths) t)) (r .2),
         breaks-mono (n .inbound) head d (car - head),
         ap (λ (k : ℕ). breaks (n .inbound) head k) e,
-        most-above (breaksIn (n .lengths) (n .inbound)) (upFrom 1 (length (n .lengths))) (suc (r .0)) (omega (arith, count-upFrom-in (suc (r .0)) 1 (length (n .lengths)) (omega arith) (omega (arith, r .1)))),
+        most-above (breaksIn (n .lengths) (n .inbound)) (upFrom 1 (length (n .lengths))) (suc (r .0))
+            (omega (arith, count-upFrom-in (suc (r .0)) 1 (length (n .lengths)) (omega arith) (omega (arith, r .1)))),
       )
 
-  pub before-pair : (j : ℕ) → 1 ≤ j → j < length (n .inbound) → pair (n .lengths) j ≡ true → breaksBefore (n .lengths) (n .inbound) (suc j) ≡ breaksBefore (n .lengths) (n .inbound) j + tally (broken (n .inbound) j)
+  pub before-pair : (j : ℕ) → 1 ≤ j → j < length (n .inbound) → pair (n .lengths) j ≡ true
+      → breaksBefore (n .lengths) (n .inbound) (suc j) ≡ breaksBefore (n .lengths) (n .inbound) j + tally (broken (n .inbound) j)
   before-pair j l m e =
       let r = train-cars (n .lengths) (n .inbound) f j (l, omega arith) in
       let head : ℕ = firstCar (n .lengths) (suc (r .0)) in
@@ -133,45 +183,26 @@ module _ (n : Night) (f : Listed (n .lengths) (n .inbound)) where
   -- ---- the derived plan
 
   module _ (pos : 0 < n .tracks) where
-    number : ℕ → ℕ
+    abbrev number : ℕ → ℕ
     number car = breaksBefore (n .lengths) (n .inbound) car
-
-    pub derived-code : (car : ℕ) → Within 1 (length (n .inbound)) car → codeOf (derivedPlan n) car ≡ codeNumber (n .tracks) (stepsNeeded n) (breaksBefore (n .lengths) (n .inbound) car)
-    unfolding derivedPlan derivedCodes
-    derived-code car w = by-car (λ c. codeNumber (n .tracks) (stepsNeeded n) (breaksBefore (n .lengths) (n .inbound) c)) (length (n .inbound)) car w
 
     pub derived-length : length (derivedCodes n) ≡ length (n .inbound)
     unfolding derivedCodes
-    derived-length = length-by-car (λ c. codeNumber (n .tracks) (stepsNeeded n) (breaksBefore (n .lengths) (n .inbound) c)) (length (n .inbound))
+    derived-length = length-by-car (λ c. codeNumber (n .tracks) (stepsNeeded n) (number c)) (length (n .inbound))
 
     -- there is a code for each number of breaks
     number-fits : (car : ℕ) → Within 1 (length (n .inbound)) car → number car < F (n .tracks) (stepsNeeded n)
-    unfolding number stepsNeeded
+    unfolding stepsNeeded
     number-fits car w = omega (arith, before-most car w, fewest-enough (n .tracks) (mostBreaks (n .lengths) (n .inbound)) pos)
 
-    derived-formed : CodesFormed (derivedPlan n)
-    unfolding derivedPlan number
-    derived-formed =
-        record {
-          each = derived-length;
-          below =
-              λ car w.
-              let v : Within 1 (length (n .inbound)) car = (w .0, omega (arith, w .1, derived-length)) in
-              subst (λ (c : ℕ). c < 2 ^ stepsNeeded n) (sym (derived-code car v)) (codeNumber-usable (n .tracks) (stepsNeeded n) pos (number car) (number-fits car v) .1);
-        }
-
-    derived-never : NeverEarly (derivedPlan n)
-    unfolding derivedPlan number
-    derived-never =
-        never-gaps (derivedPlan n) pos .1
-        (λ car m.
-        let w : Within 1 (length (n .inbound)) car = came-within (n .lengths) (n .inbound) f car m in
-        usable-gaps (n .tracks) (stepsNeeded n) (codeOf (derivedPlan n) car) pos .0
-        (subst (λ (c : ℕ). usable (n .tracks) (stepsNeeded n) c ≡ true) (sym (derived-code car w)) (codeNumber-usable (n .tracks) (stepsNeeded n) pos (number car) (number-fits car w) .0)))
-
-    derived-ruled : (j : ℕ) → 1 ≤ j → j < length (n .inbound) → pair (n .lengths) j ≡ true → ruled (codeOf (derivedPlan n) j) (codeOf (derivedPlan n) (suc j)) (broken (n .inbound) j) ≡ true
-    unfolding number
-    derived-ruled j l m e = go (broken (n .inbound) j) refl
+    pub derived-sorts : Sorts (derivedPlan n)
+    unfolding derivedPlan derivedCodes
+    derived-sorts =
+        coded-sorts n f pos H (λ car. code (number car))
+        (λ car w.
+        let here = codeNumber-usable W H pos (number car) (number-fits car w) in
+        (here .1, usable-gaps W H (code (number car)) pos .0 (here .0)))
+        (λ j l m e. rising j m (broken (n .inbound) j) (before-pair j l m e))
       where
         W : ℕ
         W = n .tracks
@@ -179,44 +210,15 @@ module _ (n : Night) (f : Listed (n .lengths) (n .inbound)) where
         H : ℕ
         H = stepsNeeded n
 
-        here : Within 1 (length (n .inbound)) j
-        here = (l, omega arith)
+        code : ℕ → ℕ
+        code q = codeNumber W H q
 
-        next : Within 1 (length (n .inbound)) (suc j)
-        next = (omega arith, m)
-
-        go : (b : Bool) → broken (n .inbound) j ≡ b → ruled (codeOf (derivedPlan n) j) (codeOf (derivedPlan n) (suc j)) b ≡ true
-        go true b =
-            lt-ltb (codeOf (derivedPlan n) j) (codeOf (derivedPlan n) (suc j))
-            (omega (
-              arith,
-              derived-code j here,
-              derived-code (suc j) next,
-              codeNumber-rising W H pos (number j) (number (suc j)) (omega (arith, before-pair j l m e, ap tally b)) (number-fits (suc j) next),
-            ))
-        go false b =
-            le-leb (codeOf (derivedPlan n) j) (codeOf (derivedPlan n) (suc j))
-            (omega (
-              arith,
-              derived-code j here,
-              derived-code (suc j) next,
-              ap (λ (q : ℕ). codeNumber W H q) (same (before-pair j l m e) (ap tally b)),
-            ))
-          where
-            same : number (suc j) ≡ number j + tally (broken (n .inbound) j) → tally (broken (n .inbound) j) ≡ 0 → number (suc j) ≡ number j
-            same p q = omega arith
-
-    pub derived-sorts : Sorts (derivedPlan n)
-    unfolding derivedPlan
-    derived-sorts =
-        record {
-          codes = derived-formed;
-          never = derived-never;
-          builds =
-              builds-ruled (derivedPlan n) f derived-formed derived-never .1
-              (λ j l m.
-              not-so (unruled (derivedPlan n) j)
-              (λ e.
-              let rule : Bool = ruled (codeOf (derivedPlan n) j) (codeOf (derivedPlan n) (suc j)) (broken (n .inbound) j) in
-              clash (derived-ruled j l m (and-left (pair (n .lengths) j) (not rule) e)) (not-true rule (and-right (pair (n .lengths) j) (not rule) e))));
-        }
+        -- the next car of a train has the same code, or after a break a greater one
+        rising : (j : ℕ) → j < length (n .inbound) → (b : Bool) → number (suc j) ≡ number j + tally b
+            → ruled (code (number j)) (code (number (suc j))) b ≡ true
+        rising j m true e =
+            lt-ltb (code (number j)) (code (number (suc j)))
+            (codeNumber-rising W H pos (number j) (number (suc j)) (omega arith) (number-fits (suc j) (omega arith, m)))
+        rising j m false e =
+            let same : number j ≡ number (suc j) = omega arith in
+            le-leb (code (number j)) (code (number (suc j))) (omega (arith, ap code same))

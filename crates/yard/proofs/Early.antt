@@ -24,7 +24,8 @@ abbrev pub Kept : ℕ → ℕ → ℕ → Type 0
 Kept W h x = (s : ℕ) → s < h → KeptAt W h x s
 
 module _ (W h : ℕ) (pos : 0 < W) (code dest : ℕ → ℕ) (inbound : List ℕ) (away : (c : ℕ) → 0 < count c inbound → W ≤ dest c) where
-  pub among-taken : (s c : ℕ) → s ≤ h → Clean W h code dest inbound s → (0 < count c (taken W h code dest inbound s)) ↔ ((target W h code dest s c ≡ s % W) × (0 < count c inbound))
+  pub among-taken : (s c : ℕ) → s ≤ h → Clean W h code dest inbound s
+      → (0 < count c (taken W h code dest inbound s)) ↔ ((target W h code dest s c ≡ s % W) × (0 < count c inbound))
   among-taken s c l clean = (into, outof)
     where
       stands : count c (taken W h code dest inbound s) ≡ cond (eqb (s % W) (target W h code dest s c)) (count c (sorted code inbound s)) 0
@@ -33,22 +34,37 @@ module _ (W h : ℕ) (pos : 0 < W) (code dest : ℕ → ℕ) (inbound : List ℕ
       into : 0 < count c (taken W h code dest inbound s) → (target W h code dest s c ≡ s % W) × (0 < count c inbound)
       into m = go (eqb (s % W) (target W h code dest s c)) refl (subst (λ (k : ℕ). 0 < k) stands m)
         where
-          go : (b : Bool) → eqb (s % W) (target W h code dest s c) ≡ b → 0 < cond b (count c (sorted code inbound s)) 0 → (target W h code dest s c ≡ s % W) × (0 < count c inbound)
+          go : (b : Bool) → eqb (s % W) (target W h code dest s c) ≡ b → 0 < cond b (count c (sorted code inbound s)) 0
+              → (target W h code dest s c ≡ s % W) × (0 < count c inbound)
           go true e m = (sym (eqb-true (s % W) (target W h code dest s c) e), subst (λ (k : ℕ). 0 < k) (sorted-count code inbound s c) m)
           go false e m = absurd (omega arith)
 
       outof : (target W h code dest s c ≡ s % W) × (0 < count c inbound) → 0 < count c (taken W h code dest inbound s)
       outof p =
-          omega (arith, stands, ap (λ (b : Bool). cond b (count c (sorted code inbound s)) 0) (eq-eqb (s % W) (target W h code dest s c) (sym (p .0))), sorted-count code inbound s c, p .1)
+          omega (
+            arith,
+            stands,
+            ap (λ (b : Bool). cond b (count c (sorted code inbound s)) 0)
+                (eq-eqb (s % W) (target W h code dest s c) (sym (p .0))),
+            sorted-count code inbound s c,
+            p .1,
+          )
 
   -- a car that step s takes, where no car was early before, is early exactly if it waits there
-  next-clean : (s : ℕ) → Clean W h code dest inbound s → s ≤ h → (c : ℕ) → KeptAt W h (code c) s → 0 < count c (taken W h code dest inbound s) → bit s (code c) ≡ true
+  next-clean : (s : ℕ) → Clean W h code dest inbound s → s ≤ h → (c : ℕ) → KeptAt W h (code c) s
+      → 0 < count c (taken W h code dest inbound s) → bit s (code c) ≡ true
   next-clean s clean l c kept m = ⊎-elim (λ e. e) (λ e. absurd (waits e (among-taken s c l clean .0 m))) (split (bit s (code c)))
     where
       waits : bit s (code c) ≡ false → (target W h code dest s c ≡ s % W) × (0 < count c inbound) → ⊥
       waits e p =
           ⊎-elim
-          (λ last. omega (arith, ap (λ (b : Bool). cond b (nextStep h (code c) s % W) (dest c)) (le-ltb (nextStep h (code c) s) h last), away c (p .1), mod-lt s pos, p .0))
+          (λ last. omega (
+            arith,
+            ap (λ (b : Bool). cond b (nextStep h (code c) s % W) (dest c)) (le-ltb (nextStep h (code c) s) h last),
+            away c (p .1),
+            mod-lt s pos,
+            p .0,
+          ))
           (λ n. kept e n (sym (ap (λ (b : Bool). cond b (nextStep h (code c) s % W) (dest c)) (lt-ltb (nextStep h (code c) s) h n)) ∙ p .0))
           (le-or-lt h (nextStep h (code c) s))
 
@@ -68,7 +84,8 @@ module _ (W h : ℕ) (pos : 0 < W) (code dest : ℕ → ℕ) (inbound : List ℕ
   unfolding Clean
   kept-of-clean clean c m s l unset n e =
       clash
-      (clean s l c (among-taken s c (omega arith) (λ k j. clean k (omega arith)) .1 (ap (λ (b : Bool). cond b (nextStep h (code c) s % W) (dest c)) (lt-ltb (nextStep h (code c) s) h n) ∙ e, m)))
+      (clean s l c (among-taken s c (omega arith)
+      (λ k j. clean k (omega arith)) .1 (ap (λ (b : Bool). cond b (nextStep h (code c) s % W) (dest c)) (lt-ltb (nextStep h (code c) s) h n) ∙ e, m)))
       unset
 
 -- ---- the gap rule

@@ -41,7 +41,8 @@ module _ (p : ℕ → Bool) where
   first-hit zero a h = absurd (omega arith)
   first-hit (suc n) a h = go (p a) refl (first-hit n (suc a)) h
     where
-      go : (b : Bool) → p a ≡ b → (first p n (suc a) < suc a + n → p (first p n (suc a)) ≡ true) → cond b a (first p n (suc a)) < a + suc n → p (cond b a (first p n (suc a))) ≡ true
+      go : (b : Bool) → p a ≡ b → (first p n (suc a) < suc a + n → p (first p n (suc a)) ≡ true)
+          → cond b a (first p n (suc a)) < a + suc n → p (cond b a (first p n (suc a))) ≡ true
       go true e later h = e
       go false e later h = later (omega arith)
 
@@ -80,7 +81,8 @@ module _ (p : ℕ → Bool) (n i a : ℕ) where
   first-hits l e = first-next l ∙ ap (λ (b : Bool). cond b a (first p (n - suc i) (suc a))) e
 
   pub first-goes : i < n → p a ≡ false → first p (n - i) a ≡ first p (n - (i + 1)) (a + 1)
-  first-goes l e = first-next l ∙ (ap (λ (b : Bool). cond b a (first p (n - suc i) (suc a))) e ∙ ap₂ (λ (j b : ℕ). first p (n - j) b) (sym (add-one i)) (sym (add-one a)))
+  first-goes l e = first-next l
+      ∙ (ap (λ (b : Bool). cond b a (first p (n - suc i) (suc a))) e ∙ ap₂ (λ (j b : ℕ). first p (n - j) b) (sym (add-one i)) (sym (add-one a)))
 
   pub first-ends : n ≤ i → first p (n - i) a ≡ a
   first-ends l =

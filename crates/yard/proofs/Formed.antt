@@ -74,20 +74,27 @@ bad-at inbound i =
     ap (λ (k : ℕ). badAt inbound k) e
 
 module _ (inbound : List ℕ) where
-  good : (i : ℕ) → badPlace inbound (suc i) ≡ false → (1 ≤ getD inbound i 0) × (getD inbound i 0 ≤ length inbound) × (count (getD inbound i 0) (take i inbound) ≡ 0)
+  good : (i : ℕ) → badPlace inbound (suc i) ≡ false
+      → (1 ≤ getD inbound i 0) × (getD inbound i 0 ≤ length inbound) × (count (getD inbound i 0) (take i inbound) ≡ 0)
   good i e =
       let x : ℕ = getD inbound i 0 in
       let n : ℕ = length inbound in
       let r = neither (not (leb 1 x && leb x n)) (listed x (take i inbound)) (sym (bad-at inbound i) ∙ e) in
-      let w = not-false (leb 1 x && leb x n) (r .0) in
-      (leb-true 1 x (and-left (leb 1 x) (leb x n) w), leb-true x n (and-right (leb 1 x) (leb x n) w), omega (arith, ltb-false 0 (count x (take i inbound)) (r .1)))
+      let w = not-false (leb 1 x && leb x n) (r .0) in (
+        leb-true 1 x (and-left (leb 1 x) (leb x n) w),
+        leb-true x n (and-right (leb 1 x) (leb x n) w),
+        omega (arith, ltb-false 0 (count x (take i inbound)) (r .1)),
+      )
 
   -- nothing bad: each car once
   each-once : ((i : ℕ) → i < length inbound → badPlace inbound (suc i) ≡ false) → (car : ℕ) → count car inbound ≡ count car (cars (length inbound))
-  each-once fine car = ⊎-elim (λ low. ⊎-elim (λ high. inside low high) (λ high. outside (inr high)) (le-or-lt car (length inbound))) (λ low. outside (inl low)) (le-or-lt 1 car)
+  each-once fine car =
+      ⊎-elim (λ low. ⊎-elim (λ high. inside low high) (λ high. outside (inr high)) (le-or-lt car (length inbound))) (λ low. outside (inl low)) (le-or-lt 1 car)
     where
       small : (x : ℕ) → count x inbound ≤ 1
-      small x = subst (λ (u : List ℕ). count x u ≤ 1) (take-length inbound) (once-each inbound (λ i m. good i (fine i m) .2) (length inbound) (le-refl (length inbound)) x)
+      small x =
+          subst (λ (u : List ℕ). count x u ≤ 1) (take-length inbound)
+          (once-each inbound (λ i m. good i (fine i m) .2) (length inbound) (le-refl (length inbound)) x)
 
       range : (x : ℕ) → 0 < count x inbound → (1 ≤ x) × (x < 1 + length inbound)
       range x m =
@@ -98,7 +105,8 @@ module _ (inbound : List ℕ) where
       inside low high = pigeonhole inbound 1 range small car low (omega arith) ∙ sym (count-upFrom-in car 1 (length inbound) low (omega arith))
 
       absent : (car < 1) ⊎ (length inbound < car) → count car inbound ≡ 0
-      absent o = ⊎-elim (λ e. e) (λ m. absurd (⊎-elim (λ l. omega (arith, range car m .0)) (λ l. omega (arith, range car m .1)) o)) (none-or-some (count car inbound))
+      absent o =
+          ⊎-elim (λ e. e) (λ m. absurd (⊎-elim (λ l. omega (arith, range car m .0)) (λ l. omega (arith, range car m .1)) o)) (none-or-some (count car inbound))
         where
           none-or-some : (k : ℕ) → (k ≡ 0) ⊎ (0 < k)
           none-or-some zero = inl refl
@@ -109,7 +117,9 @@ module _ (inbound : List ℕ) where
 
   -- each car once: nothing bad
   none-bad : ((car : ℕ) → count car inbound ≡ count car (cars (length inbound))) → (i : ℕ) → i < length inbound → badPlace inbound (suc i) ≡ false
-  none-bad once i m = bad-at inbound i ∙ both-false (ap not (and-both (le-leb 1 x (omega (arith, b .0))) (le-leb x (length inbound) (omega (arith, b .1))))) (le-ltb 0 (count x (take i inbound)) (omega (arith, count-at inbound i m, once x, count-upFrom-in x 1 (length inbound) (b .0) (b .1))))
+  none-bad once i m = bad-at inbound i
+      ∙ both-false (ap not (and-both (le-leb 1 x (omega (arith, b .0))) (le-leb x (length inbound) (omega (arith, b .1)))))
+      (le-ltb 0 (count x (take i inbound)) (omega (arith, count-at inbound i m, once x, count-upFrom-in x 1 (length inbound) (b .0) (b .1))))
     where
       x : ℕ
       x = getD inbound i 0
@@ -146,6 +156,14 @@ train-passed lengths = (
 
 pub lists-passed : (n : Night) → Passed (nightTests n) ↔ Listed (n .lengths) (n .inbound)
 lists-passed n = (
-  λ t. record { nonempty = train-passed (n .lengths) .0 (t .0); adds = sum-passed (n .lengths) (length (n .inbound)) .0 (t .1 .0); once = inbound-passed (n .inbound) .0 (t .1 .1 .0) },
-  λ r. (train-passed (n .lengths) .1 (r .nonempty), (sum-passed (n .lengths) (length (n .inbound)) .1 (r .adds), (inbound-passed (n .inbound) .1 (r .once), tt))),
+  λ t. record {
+    nonempty = train-passed (n .lengths) .0 (t .0);
+    adds = sum-passed (n .lengths) (length (n .inbound)) .0
+        (t .1 .0);
+    once = inbound-passed (n .inbound) .0 (t .1 .1 .0);
+  },
+  λ r. (
+    train-passed (n .lengths) .1 (r .nonempty),
+    (sum-passed (n .lengths) (length (n .inbound)) .1 (r .adds), (inbound-passed (n .inbound) .1 (r .once), tt)),
+  ),
 )

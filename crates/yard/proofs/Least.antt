@@ -19,8 +19,8 @@ use Rattle.yard.specs.Demands.{Within, Listed, CodesFormed, NeverEarly, 
 use Rattle.yard.proofs.Bools.{split, clash, and-left, and-right, not-so, not-true}
 use Rattle.yard.proofs.Numbers.{le-or-lt}
 use Rattle.yard.proofs.First.{first-from, first-le, first-hit, first-least}
-use Rattle.yard.proofs.Lists.{count-kept, count-upFrom-in, upFrom-bounds, length-upFrom}
-use Rattle.yard.proofs.Codes.{total-last}
+use Rattle.yard.proofs.Lists.{total-small, tally-small, count-kept, count-upFrom-in, upFrom-bounds, length-upFrom}
+use Rattle.yard.proofs.Codes.{total-next}
 use Rattle.yard.proofs.Counting.{passing, total-split, length-passing, F-counts, F-above}
 use Rattle.yard.proofs.Trains.{firstCar-suc, most-above, most-reached, breaks-suc, breaksBefore-train}
 use Rattle.yard.proofs.Formed.{count-at}
@@ -35,7 +35,16 @@ passing-mono p m n l =
     omega (arith, ap (λ (k : ℕ). passing p k) e, total-split (λ x. tally (p x)) 0 m (n - m))
 
 pub passing-suc : (p : ℕ → Bool) (x : ℕ) → p x ≡ true → passing p (suc x) ≡ suc (passing p x)
-passing-suc p x e = omega (arith, total-last (λ x. tally (p x)) 0 x, ap (λ (k : ℕ). tally (p k)) (zero-add x), ap tally e)
+passing-suc p x e = omega (arith, total-next (λ x. tally (p x)) x, ap tally e)
+
+-- of d numbers more at most d pass, and of n numbers at most n
+pub passing-more : (p : ℕ → Bool) (n d : ℕ) → passing p (n + d) ≤ passing p n + d
+passing-more p n d =
+    let f : ℕ → ℕ = λ x. tally (p x) in
+    omega (arith, total-split f 0 n d, total-small f (λ x. tally-small (p x)) (upFrom (0 + n) d), length-upFrom (0 + n) d)
+
+pub passing-most : (p : ℕ → Bool) (n : ℕ) → passing p n ≤ n
+passing-most p n = omega (arith, passing-more p 0 n, ap (λ (k : ℕ). passing p k) (zero-add n))
 
 pub usable-count : (W h : ℕ) → 0 < W → passing (usable W h) (2 ^ h) ≡ F W h
 usable-count W h pos = F-counts W pos (usable W) (λ h x. usable-gaps W h x pos) h
@@ -58,9 +67,12 @@ module _ (p : Plan) (f : Listed (p .night .lengths) (p .night .inbound)) (pos : 
       (never-gaps p pos .0 (sorts .never) car (omega (arith, came-once (p .night .lengths) (p .night .inbound) f car w)))
 
   -- the breaks before a car are at most the usable codes below its own
-  breaks-below : (i d : ℕ) → i < length (p .night .lengths) → d < itemOf (p .night .lengths) (suc i) → breaks (p .night .inbound) (firstCar (p .night .lengths) (suc i)) d ≤ passing u (codeOf p (firstCar (p .night .lengths) (suc i) + d))
+  breaks-below : (i d : ℕ) → i < length (p .night .lengths) → d < itemOf (p .night .lengths) (suc i)
+      → breaks (p .night .inbound) (firstCar (p .night .lengths) (suc i)) d ≤ passing u (codeOf p (firstCar (p .night .lengths) (suc i) + d))
   breaks-below i zero m b = omega arith
-  breaks-below i (suc d) m b = go (broken inbound j) refl (ruled-of-builds p f (sorts .codes) (sorts .never) (sorts .builds) i j m (omega arith) (omega arith)) (breaks-below i d m (omega arith))
+  breaks-below i (suc d) m b =
+      go (broken inbound j) refl
+      (ruled-of-builds p f (sorts .codes) (sorts .never) (sorts .builds) i j m (omega arith) (omega arith)) (breaks-below i d m (omega arith))
     where
       inbound : List ℕ
       inbound = p .night .inbound
@@ -74,7 +86,8 @@ module _ (p : Plan) (f : Listed (p .night .lengths) (p .night .inbound)) (pos : 
       next : passing u (codeOf p (suc j)) ≡ passing u (codeOf p (head + suc d))
       next = ap (λ (c : ℕ). passing u (codeOf p c)) (sym (add-suc head d))
 
-      go : (brk : Bool) → broken inbound j ≡ brk → ruled (codeOf p j) (codeOf p (suc j)) brk ≡ true → breaks inbound head d ≤ passing u (codeOf p j) → breaks inbound head (suc d) ≤ passing u (codeOf p (head + suc d))
+      go : (brk : Bool) → broken inbound j ≡ brk → ruled (codeOf p j) (codeOf p (suc j)) brk ≡ true
+          → breaks inbound head d ≤ passing u (codeOf p j) → breaks inbound head (suc d) ≤ passing u (codeOf p (head + suc d))
       go true e rule le =
           omega (
             arith,

@@ -31,11 +31,20 @@ pub total-length : (l : List ℕ) → total (λ x. 1) l ≡ length l
 total-length [] = refl
 total-length (x ∷ l) = omega (arith, total-length l)
 
+pub total-small : (f : ℕ → ℕ) → ((x : ℕ) → f x ≤ 1) → (l : List ℕ) → total f l ≤ length l
+total-small f small [] = omega arith
+total-small f small (x ∷ l) = omega (arith, small x, total-small f small l)
+
+pub tally-small : (b : Bool) → tally b ≤ 1
+tally-small true = omega arith
+tally-small false = omega arith
+
 pub total-keep : (f : ℕ → ℕ) (p : ℕ → Bool) (l : List ℕ) → total f (keep p l) ≡ total (λ x. cond (p x) (f x) 0) l
 total-keep f p [] = refl
 total-keep f p (x ∷ l) = go (p x) (total-keep f p l)
   where
-    go : (b : Bool) → total f (keep p l) ≡ total (λ y. cond (p y) (f y) 0) l → total f (cond b (x ∷ keep p l) (keep p l)) ≡ cond b (f x) 0 + total (λ y. cond (p y) (f y) 0) l
+    go : (b : Bool) → total f (keep p l) ≡ total (λ y. cond (p y) (f y) 0) l
+        → total f (cond b (x ∷ keep p l) (keep p l)) ≡ cond b (f x) 0 + total (λ y. cond (p y) (f y) 0) l
     go true e = omega arith
     go false e = omega arith
 
@@ -74,7 +83,8 @@ pub keep-keep : (p q : ℕ → Bool) (l : List ℕ) → keep p (keep q l) ≡ ke
 keep-keep p q [] = refl
 keep-keep p q (x ∷ l) = go (q x) (keep-keep p q l)
   where
-    go : (b : Bool) → keep p (keep q l) ≡ keep (λ y. q y && p y) l → keep p (cond b (x ∷ keep q l) (keep q l)) ≡ cond (b && p x) (x ∷ keep (λ y. q y && p y) l) (keep (λ y. q y && p y) l)
+    go : (b : Bool) → keep p (keep q l) ≡ keep (λ y. q y && p y) l
+        → keep p (cond b (x ∷ keep q l) (keep q l)) ≡ cond (b && p x) (x ∷ keep (λ y. q y && p y) l) (keep (λ y. q y && p y) l)
     go true e = ap (λ t. cond (p x) (x ∷ t) t) e
     go false e = e
 
@@ -136,7 +146,10 @@ count-upFrom-in x a (suc n) l h = ⊎-elim (λ e. here e) (λ m. there m (count-
     there m r = omega (arith, ap tally (ne-eqb x a (λ e. omega arith)))
 
 pub upFrom-bounds : (x a n : ℕ) → 0 < count x (upFrom a n) → (a ≤ x) × (x < a + n)
-upFrom-bounds x a n h = (⊎-elim (λ l. l) (λ l. absurd (omega (arith, count-upFrom-out x a n (inl l)))) (le-or-lt a x), ⊎-elim (λ l. absurd (omega (arith, count-upFrom-out x a n (inr l)))) (λ l. l) (le-or-lt (a + n) x))
+upFrom-bounds x a n h = (
+  ⊎-elim (λ l. l) (λ l. absurd (omega (arith, count-upFrom-out x a n (inl l)))) (le-or-lt a x),
+  ⊎-elim (λ l. absurd (omega (arith, count-upFrom-out x a n (inr l)))) (λ l. l) (le-or-lt (a + n) x),
+)
 
 -- ---- a sum by items is a sum by values
 
@@ -156,19 +169,22 @@ total-at f y a n l h =
         (λ e. omega (arith, ap (λ (b : Bool). tally b * f x) e, ap (λ (b : Bool). tally b * f y) (ne-eqb y x (λ q. eqb-false x y e (sym q)))))
         (split (eqb x y))
 
-pub total-values : (f : ℕ → ℕ) (a n : ℕ) (l : List ℕ) → ((x : ℕ) → 0 < count x l → (a ≤ x) × (x < a + n)) → total f l ≡ total (λ x. count x l * f x) (upFrom a n)
+pub total-values : (f : ℕ → ℕ) (a n : ℕ) (l : List ℕ) → ((x : ℕ) → 0 < count x l → (a ≤ x) × (x < a + n))
+    → total f l ≡ total (λ x. count x l * f x) (upFrom a n)
 total-values f a n [] b = sym (total-same _ _ (upFrom a n) (λ x m. zero-mul (f x)) ∙ total-none (upFrom a n))
 total-values f a n (y ∷ l) b =
     omega (
       arith,
       total-values f a n l (λ x h. b x (count-tail x y l h)),
       total-at f y a n (b y (count-head y l) .0) (b y (count-head y l) .1),
-      total-same (λ x. (tally (eqb x y) + count x l) * f x) (λ x. tally (eqb x y) * f x + count x l * f x) (upFrom a n) (λ x m. add-mul (tally (eqb x y)) (count x l) (f x)),
+      total-same (λ x. (tally (eqb x y) + count x l) * f x) (λ x. tally (eqb x y) * f x + count x l * f x) (upFrom a n)
+          (λ x m. add-mul (tally (eqb x y)) (count x l) (f x)),
       total-add (λ x. tally (eqb x y) * f x) (λ x. count x l * f x) (upFrom a n),
     )
 
 -- lists that hold each number equally often have equal sums
-pub total-alike : (f : ℕ → ℕ) (l m : List ℕ) (a n : ℕ) → ((x : ℕ) → 0 < count x l → (a ≤ x) × (x < a + n)) → ((x : ℕ) → count x l ≡ count x m) → total f l ≡ total f m
+pub total-alike : (f : ℕ → ℕ) (l m : List ℕ) (a n : ℕ) → ((x : ℕ) → 0 < count x l → (a ≤ x) × (x < a + n))
+    → ((x : ℕ) → count x l ≡ count x m) → total f l ≡ total f m
 total-alike f l m a n b e =
     total-values f a n l b ∙
     (total-same _ _ (upFrom a n) (λ x h. ap (λ (k : ℕ). k * f x) (e x)) ∙
@@ -179,15 +195,12 @@ full : (g : ℕ → ℕ) (a n : ℕ) → ((x : ℕ) → g x ≤ 1) → total g (
 full g a zero small e x l h = absurd (omega arith)
 full g a (suc n) small e x l h =
     ⊎-elim
-    (λ q. omega (arith, ap g q, small a, at-most (upFrom (suc a) n), length-upFrom (suc a) n))
-    (λ m. full g (suc a) n small (omega (arith, small a, at-most (upFrom (suc a) n), length-upFrom (suc a) n)) x m (omega arith))
+    (λ q. omega (arith, ap g q, small a, total-small g small (upFrom (suc a) n), length-upFrom (suc a) n))
+    (λ m. full g (suc a) n small (omega (arith, small a, total-small g small (upFrom (suc a) n), length-upFrom (suc a) n)) x m (omega arith))
     (eq-or-lt-of-le l)
-  where
-    at-most : (l : List ℕ) → total g l ≤ length l
-    at-most [] = omega arith
-    at-most (x ∷ l) = omega (arith, small x, at-most l)
 
-pub pigeonhole : (l : List ℕ) (a : ℕ) → ((x : ℕ) → 0 < count x l → (a ≤ x) × (x < a + length l)) → ((x : ℕ) → count x l ≤ 1) → (x : ℕ) → a ≤ x → x < a + length l → count x l ≡ 1
+pub pigeonhole : (l : List ℕ) (a : ℕ) → ((x : ℕ) → 0 < count x l → (a ≤ x) × (x < a + length l)) → ((x : ℕ) → count x l ≤ 1)
+    → (x : ℕ) → a ≤ x → x < a + length l → count x l ≡ 1
 pigeonhole l a b small =
     full (λ x. count x l) a (length l) small
     (total-same _ _ (upFrom a (length l)) (λ x m. sym (mul-one (count x l))) ∙

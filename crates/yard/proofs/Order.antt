@@ -46,7 +46,8 @@ pub place-right : (x : ℕ) (u v : List ℕ) → count x u ≡ 0 → place x (u 
 place-right x [] v h = omega arith
 place-right x (y ∷ u) v h = go (eqb x y) h (place-right x u v)
   where
-    go : (b : Bool) → tally b + count x u ≡ 0 → (count x u ≡ 0 → place x (u ++ v) ≡ length u + place x v) → cond b 0 (suc (place x (u ++ v))) ≡ suc (length u) + place x v
+    go : (b : Bool) → tally b + count x u ≡ 0 → (count x u ≡ 0 → place x (u ++ v) ≡ length u + place x v)
+        → cond b 0 (suc (place x (u ++ v))) ≡ suc (length u) + place x v
     go true h later = absurd (omega arith)
     go false h later = omega (arith, later (omega arith))
 
@@ -55,7 +56,8 @@ pub place-apart : (a b : ℕ) (l : List ℕ) → (a ≡ b → ⊥) → 0 < count
 place-apart a b [] n h e = omega arith
 place-apart a b (y ∷ l) n h e = go (eqb a y) (eqb b y) refl refl h e (place-apart a b l n)
   where
-    go : (s t : Bool) → eqb a y ≡ s → eqb b y ≡ t → 0 < tally s + count a l → cond s 0 (suc (place a l)) ≡ cond t 0 (suc (place b l)) → (0 < count a l → place a l ≡ place b l → ⊥) → ⊥
+    go : (s t : Bool) → eqb a y ≡ s → eqb b y ≡ t → 0 < tally s + count a l
+        → cond s 0 (suc (place a l)) ≡ cond t 0 (suc (place b l)) → (0 < count a l → place a l ≡ place b l → ⊥) → ⊥
     go true true p q h e later = n (eqb-true a y p ∙ sym (eqb-true b y q))
     go true false p q h e later = omega arith
     go false true p q h e later = omega arith
@@ -96,7 +98,8 @@ pub before-right : (a b : ℕ) (u v : List ℕ) → count a u ≡ 0 → count b 
 before-right a b u v ha hb = rw (place-right a u v ha, place-right b u v hb) (ltb-shift (length u) (place a v) (place b v))
   where
     ltb-shift : (k i j : ℕ) → ltb (k + i) (k + j) ≡ ltb i j
-    ltb-shift k i j = ⊎-elim (λ h. le-ltb (k + i) (k + j) (omega arith) ∙ sym (le-ltb i j h)) (λ h. lt-ltb (k + i) (k + j) (omega arith) ∙ sym (lt-ltb i j h)) (le-or-lt j i)
+    ltb-shift k i j =
+        ⊎-elim (λ h. le-ltb (k + i) (k + j) (omega arith) ∙ sym (le-ltb i j h)) (λ h. lt-ltb (k + i) (k + j) (omega arith) ∙ sym (lt-ltb i j h)) (le-or-lt j i)
 
 pub before-across : (a b : ℕ) (u v : List ℕ) → 0 < count a u → count b u ≡ 0 → before a b (u ++ v) ≡ true
 before-across a b u v ha hb = lt-ltb (place a (u ++ v)) (place b (u ++ v)) (omega (arith, place-left a u v ha, place-right b u v hb, place-among a u ha))
@@ -125,7 +128,9 @@ upFrom-before a (suc n) j l h = ⊎-elim (λ e. here e) (λ m. later m (upFrom-b
     first-place e = ap (λ (x : ℕ). place x (upFrom a (suc n))) (sym e) ∙ place-here a (upFrom (suc a) n)
 
     here : a ≡ j → before j (suc j) (upFrom a (suc n)) ≡ true
-    here e = lt-ltb (place j (upFrom a (suc n))) (place (suc j) (upFrom a (suc n))) (omega (arith, first-place e, place-there (suc j) a (upFrom (suc a) n) (λ q. omega arith)))
+    here e =
+        lt-ltb (place j (upFrom a (suc n))) (place (suc j) (upFrom a (suc n)))
+        (omega (arith, first-place e, place-there (suc j) a (upFrom (suc a) n) (λ q. omega arith)))
 
     later : a < j → before j (suc j) (upFrom (suc a) n) ≡ true → before j (suc j) (upFrom a (suc n)) ≡ true
     later m r = before-skip j (suc j) a (upFrom (suc a) n) (λ e. omega arith) (λ e. omega arith) ∙ r

@@ -36,7 +36,8 @@ module _ (p : Plan) (f : Listed (p .night .lengths) (p .night .inbound)) (pos : 
   at : ℕ → ℕ → ℕ
   at s car = location (p .night .tracks) (p .steps) (codeOf p) (destination (p .night)) s car
 
-  goes-within : (s car : ℕ) → Within 1 (length (p .night .inbound)) car → target (p .night .tracks) (p .steps) (codeOf p) (destination (p .night)) s car < p .night .tracks + length (p .night .lengths)
+  goes-within : (s car : ℕ) → Within 1 (length (p .night .inbound)) car
+      → target (p .night .tracks) (p .steps) (codeOf p) (destination (p .night)) s car < p .night .tracks + length (p .night .lengths)
   goes-within s car w = go (ltb l (p .steps))
     where
       l : ℕ
@@ -51,16 +52,21 @@ module _ (p : Plan) (f : Listed (p .night .lengths) (p .night .inbound)) (pos : 
   stands-within zero car w = goes-within 0 car w
   stands-within (suc s) car w = go (eqb (at s car) (s % p .night .tracks)) (stands-within s car w)
     where
-      go : (b : Bool) → at s car < p .night .tracks + length (p .night .lengths) → cond b (target (p .night .tracks) (p .steps) (codeOf p) (destination (p .night)) (suc s) car) (at s car) < p .night .tracks + length (p .night .lengths)
+      go : (b : Bool) → at s car < p .night .tracks + length (p .night .lengths)
+          → cond b (target (p .night .tracks) (p .steps) (codeOf p) (destination (p .night)) (suc s) car)
+          (at s car) < p .night .tracks + length (p .night .lengths)
       go true m = goes-within (suc s) car w
       go false m = m
 
   track-at : (s car : ℕ) → Within 1 (length (p .night .inbound)) car → trackOf p s car ≡ at s car
   unfolding trackOf yardAt at
   track-at s car w =
-      first-found (λ t. listed car (yardAt p s .standing t)) (p .night .tracks + length (p .night .lengths)) 0 (at s car) (omega arith) (omega (arith, stands-within s car w))
-      (lt-ltb 0 (count car (yardAt p s .standing (at s car))) (omega (arith, standing-once W h code dest inbound s car, came-once (p .night .lengths) inbound f car w)))
-      (λ t l m. not-so (listed car (yardAt p s .standing t)) (λ e. omega (arith, standing-where W h code dest inbound s car t (ltb-true 0 (count car (yardAt p s .standing t)) e) .0)))
+      first-found (λ t. listed car (yardAt p s .standing t)) (p .night .tracks + length (p .night .lengths)) 0 (at s car)
+      (omega arith) (omega (arith, stands-within s car w))
+      (lt-ltb 0 (count car (yardAt p s .standing (at s car)))
+      (omega (arith, standing-once W h code dest inbound s car, came-once (p .night .lengths) inbound f car w)))
+      (λ t l m. not-so (listed car (yardAt p s .standing t))
+      (λ e. omega (arith, standing-where W h code dest inbound s car t (ltb-true 0 (count car (yardAt p s .standing t)) e) .0)))
     where
       W : ℕ
       W = p .night .tracks
@@ -82,11 +88,13 @@ module _ (p : Plan) (f : Listed (p .night .lengths) (p .night .inbound)) (pos : 
   unfolding yardAt at
   one-track s car w =
       ap (λ (t : ℕ). count car (yardAt p s .standing t)) (track-at s car w) ∙
-      (standing-once (p .night .tracks) (p .steps) (codeOf p) (destination (p .night)) (p .night .inbound) s car ∙ came-once (p .night .lengths) (p .night .inbound) f car w)
+      (standing-once (p .night .tracks) (p .steps) (codeOf p) (destination (p .night)) (p .night .inbound) s car
+      ∙ came-once (p .night .lengths) (p .night .inbound) f car w)
 
   pub no-other-track : (s car t : ℕ) → Within 1 (length (p .night .inbound)) car → 0 < count car (yardAt p s .standing t) → t ≡ trackOf p s car
   unfolding yardAt at
-  no-other-track s car t w m = standing-where (p .night .tracks) (p .steps) (codeOf p) (destination (p .night)) (p .night .inbound) s car t m .0 ∙ sym (track-at s car w)
+  no-other-track s car t w m =
+      standing-where (p .night .tracks) (p .steps) (codeOf p) (destination (p .night)) (p .night .inbound) s car t m .0 ∙ sym (track-at s car w)
 
   pub one-place : (s car : ℕ) → Within 1 (length (p .night .inbound)) car → getD (yardAt p s .standing (trackOf p s car)) (placeOf p s car) 0 ≡ car
   unfolding placeOf
@@ -97,11 +105,16 @@ module _ (p : Plan) (f : Listed (p .night .lengths) (p .night .inbound)) (pos : 
   goal : ℕ → ℕ
   goal car = target (p .night .tracks) (p .steps) (codeOf p) (destination (p .night)) s car
 
-  standing-is : (t : ℕ) → yardAt p s .standing t ≡ keep (λ c. eqb t (target (p .night .tracks) (p .steps) (codeOf p) (destination (p .night)) s c)) (sorted (codeOf p) (p .night .inbound) s)
+  standing-is : (t : ℕ)
+      → yardAt p s .standing t ≡ keep
+      (λ c. eqb t (target (p .night .tracks) (p .steps) (codeOf p) (destination (p .night)) s c)) (sorted (codeOf p) (p .night .inbound) s)
   unfolding yardAt Clean
-  standing-is t = standing-sorted (p .night .tracks) (p .steps) (codeOf p) (destination (p .night)) (p .night .inbound) s l (λ k m. clean-of-never p never k (omega arith)) t
+  standing-is t =
+      standing-sorted (p .night .tracks) (p .steps) (codeOf p) (destination (p .night)) (p .night .inbound) s l
+      (λ k m. clean-of-never p never k (omega arith)) t
 
-  pub track-target : (car : ℕ) → Within 1 (length (p .night .inbound)) car → trackOf p s car ≡ target (p .night .tracks) (p .steps) (codeOf p) (destination (p .night)) s car
+  pub track-target : (car : ℕ) → Within 1 (length (p .night .inbound)) car
+      → trackOf p s car ≡ target (p .night .tracks) (p .steps) (codeOf p) (destination (p .night)) s car
   unfolding goal
   track-target car w =
       sym (no-other-track p f pos s car (goal car) w
@@ -114,7 +127,10 @@ module _ (p : Plan) (f : Listed (p .night .lengths) (p .night .inbound)) (pos : 
         came-once (p .night .lengths) (p .night .inbound) f car w,
       )))
 
-  pub place-target : (car : ℕ) → Within 1 (length (p .night .inbound)) car → placeOf p s car ≡ place car (keep (λ c. eqb (target (p .night .tracks) (p .steps) (codeOf p) (destination (p .night)) s car) (target (p .night .tracks) (p .steps) (codeOf p) (destination (p .night)) s c)) (sorted (codeOf p) (p .night .inbound) s))
+  pub place-target : (car : ℕ) → Within 1 (length (p .night .inbound)) car
+      → placeOf p s car ≡ place car
+      (keep (λ c. eqb (target (p .night .tracks) (p .steps) (codeOf p) (destination (p .night)) s car)
+      (target (p .night .tracks) (p .steps) (codeOf p) (destination (p .night)) s c)) (sorted (codeOf p) (p .night .inbound) s))
   unfolding placeOf goal
   place-target car w = ap (λ (t : ℕ). place car (yardAt p s .standing t)) (track-target car w) ∙ ap (λ (u : List ℕ). place car u) (standing-is (goal car))
 
@@ -122,7 +138,8 @@ module _ (p : Plan) (f : Listed (p .night .lengths) (p .night .inbound)) (pos : 
 
 -- a sum over what came in is a sum over the cars 1 to n, and one over the codes
 pub total-cars : (inbound : List ℕ) → EachOnce inbound → (g : ℕ → ℕ) → total g inbound ≡ total g (cars (length inbound))
-total-cars inbound once g = total-alike g inbound (cars (length inbound)) 1 (length inbound) (λ x m. upFrom-bounds x 1 (length inbound) (subst (λ (k : ℕ). 0 < k) (once x) m)) once
+total-cars inbound once g =
+    total-alike g inbound (cars (length inbound)) 1 (length inbound) (λ x m. upFrom-bounds x 1 (length inbound) (subst (λ (k : ℕ). 0 < k) (once x) m)) once
 
 total-map : (g k : ℕ → ℕ) (l : List ℕ) → total g (map k l) ≡ total (λ x. g (k x)) l
 total-map g k [] = refl
@@ -173,7 +190,8 @@ module _ (p : Plan) (f : Listed (p .night .lengths) (p .night .inbound)) (formed
   pub pullSize-codes : (k : ℕ) → k < p .steps → pullSize p k ≡ total (λ x. tally (bit k x)) (p .codes)
   unfolding pullSize pulled yardAt Clean
   pullSize-codes k l =
-      taken-total (p .night .tracks) (p .steps) (codeOf p) (destination (p .night)) (p .night .inbound) k l (λ j m. clean-of-never p never j (omega arith)) (λ c. 1) ∙
+      taken-total (p .night .tracks) (p .steps) (codeOf p) (destination (p .night)) (p .night .inbound) k l
+      (λ j m. clean-of-never p never j (omega arith)) (λ c. 1) ∙
       (total-same _ _ (p .night .inbound) (λ c m. one (bit k (codeOf p c))) ∙ by-codes (λ x. tally (bit k x)))
     where
       one : (b : Bool) → cond b 1 0 ≡ tally b

@@ -78,14 +78,18 @@ module _ (p : Plan) where
           let r = within .range car (pulled-came k car m) in
           ⊎-elim
           (λ set. set)
-          (λ unset. clash (and-both (lt-ltb 0 (count car (pulled p k)) m) (ap not unset)) (first-none (early p k) n 1 car (r .0) (omega (arith, r .1, leb-false (first (early p k) n 1) n e))))
+          (λ unset. clash (and-both (lt-ltb 0 (count car (pulled p k)) m) (ap not unset))
+          (first-none (early p k) n 1 car (r .0) (omega (arith, r .1, leb-false (first (early p k) n 1) n e))))
           (split (bit k (codeOf p car))),
       λ fine.
           lt-leb (first (early p k) n 1) n
           (omega (
             arith,
             first-fails (early p k) n 1
-                (λ car l m. not-so (early p k car) (λ e. clash (fine car (ltb-true 0 (count car (pulled p k)) (and-left (listed car (pulled p k)) (not (bit k (codeOf p car))) e))) (not-true (bit k (codeOf p car)) (and-right (listed car (pulled p k)) (not (bit k (codeOf p car))) e)))),
+                (λ car l m. not-so (early p k car)
+                (λ e. clash (fine car
+                (ltb-true 0 (count car (pulled p k)) (and-left (listed car (pulled p k)) (not (bit k (codeOf p car))) e)))
+                (not-true (bit k (codeOf p car)) (and-right (listed car (pulled p k)) (not (bit k (codeOf p car))) e)))),
           )),
     )
       where
@@ -152,7 +156,8 @@ usable-gaps W h x pos = (
       (omega (
         arith,
         first-le (λ k. leb (lowestEarly p k) 1) h 0,
-        leb-true h (firstEarly p) (reached .0 (early-passed p lone-range .1 (never-gaps p pos .1 (λ car m. subst (λ (c : ℕ). Gaps W h (codeOf p c)) (sym (lone-one car m)) g)))),
+        leb-true h (firstEarly p)
+            (reached .0 (early-passed p lone-range .1 (never-gaps p pos .1 (λ car m. subst (λ (c : ℕ). Gaps W h (codeOf p c)) (sym (lone-one car m)) g)))),
       )),
 )
   where

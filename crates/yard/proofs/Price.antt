@@ -3,7 +3,7 @@ use Prim.Native.Nat.{ℕ, _+_, _*_, _/_, _%_, _^_, _≤_, _<_}
 use native.Mathlib.Nat.{lt-of-le-of-lt, lt-of-lt-of-le, le-of-lt, mul-assoc, mul-one, mul-le-mul-left, mul-div-cancel, mul-mod-left, div-add-mod', add-zero}
 use native.Mathlib.Omega.{arith}
 use mathlib.Core.Path.{_≡_, refl, sym, ap, _∙_, subst, subst⁻¹}
-use mathlib.Core.Logic.{_↔_, ⊎-elim}
+use mathlib.Core.Logic.{_↔_, inl, inr}
 use mathlib.Core.List.{[], _∷_}
 use mathlib.Core.Bool.{Bool, true, false, cond, _&&_, true≢false, false≢true}
 use lib.Dec.{T, leb, ltb, eqb, lit<, lit≤, leb·zero}
@@ -14,14 +14,17 @@ use lib.Ieee.Fits.{round-fits, down-pos}
 use lib.Ieee.Exact.{HasValue, round-exact}
 use lib.Ieee.Back.{round-whole}
 use lib.Ieee.Scale.{round-same}
-use borrow.Author.Tests.{leb-true, eqb-true, le-leb, lt-leb, eq-eqb}
+use borrow.Author.Tests.{leb-true, eqb-true, le-leb, lt-leb, eq-eqb, ne-eqb}
 use Rattle.yard.specs.declared.Timings.{Timings}
 use Rattle.yard.specs.declared.PriceAnswer.{PriceAnswer}
 use Rattle.yard.specs.Limits.{Limits, limits}
-use Rattle.yard.specs.Answers.{says, test, verdict}
-use Rattle.yard.specs.Price.{seconds, positiveZero, sixteenths, timing, priceWorth, priced, priceAnswer, Prices}
-use Rattle.yard.proofs.Bools.{split, and-left, and-right, and-both}
-use Rattle.yard.proofs.Numbers.{le-or-lt}
+use Rattle.yard.specs.declared.Answer.{Answer}
+use Rattle.yard.specs.Answers.{says, verdict, answers, AllHold, FirstFails}
+use Rattle.yard.specs.Price.{seconds, positiveZero, sixteenths, timing, timingAsk, priceAsks, Priceable, priceWorth, priced, priceAnswer, Prices}
+use Rattle.yard.proofs.Bools.{clash, and-left, and-right, and-both}
+use Rattle.yard.proofs.Verdict.{verdict-done}
+use Rattle.yard.proofs.Asks.{Right, Sound, plain-right, accepted-exactly, refused-exactly}
+use Rattle.yard.proofs.Rights.{count-right}
 use Rattle.yard.proofs.PriceDoubles.{Compares, value-unique, mul-values, lt-values, eq-values, le-values}
 
 -- ---- The double worth k sixteenths, for a k below 2^53.
@@ -77,7 +80,8 @@ pub timing-most : (x : Float) → timing x ≡ true → sixteenths x ≤ 4096 * 
 timing-most nan t = absurd (false≢true t)
 timing-most (inf s) t = absurd (false≢true t)
 timing-most (fin true m e) t = absurd (false≢true t)
-timing-most (fin false m e) t = leb-true (sixteenths (fin false m e)) (4096 * 16) (and-right (eqb (m * up e * 16 % down e) 0) (leb (m * up e * 16 / down e) (4096 * 16)) t)
+timing-most (fin false m e) t =
+    leb-true (sixteenths (fin false m e)) (4096 * 16) (and-right (eqb (m * up e * 16 % down e) 0) (leb (m * up e * 16 / down e) (4096 * 16)) t)
 
 -- a timing has few enough sixteenths for the laws above
 few : {k : ℕ} → k ≤ 4096 * 16 → k < 2 ^ 53
@@ -101,76 +105,69 @@ seconds-worth k h = value-worth (seconds k) k (seconds-value k h)
 pub seconds-one : (j k : ℕ) → j < 2 ^ 53 → k < 2 ^ 53 → seconds j ≡ seconds k → j ≡ k
 seconds-one j k hj hk e = sym (seconds-worth j hj) ∙ ap sixteenths e ∙ seconds-worth k hk
 
--- ---- What price answers, and why: a reason with no earlier one before it, or all four tests hold.
-within : {x high : ℕ} → x ≤ high → leb 0 x && leb x high ≡ true
-within {x} {high} h = rw (leb·zero x) (le-leb x high h)
-
-beyond : {x high : ℕ} → high < x → leb 0 x && leb x high ≡ false
-beyond {x} {high} h = rw (leb·zero x) (lt-leb x high h)
-
--- the four tests of a call, as facts
-pub record AllHold (L : Limits) (steps passes : ℕ) (t : Timings) : Type 0 where
-  pub stepsIn : steps ≤ L .steps
-  pub passesIn : passes ≤ L .passes
-  pub pullIn : timing (t .pull) ≡ true
-  pub pushIn : timing (t .push) ≡ true
+-- ---- What price answers, and why.
+timing-right : (a : ℕ) (x : Float) → Right (timingAsk a x)
+timing-right a x = plain-right 12 (timing x) a (timing x ≡ true) (λ e. e, λ e. e)
 
 module _ (L : Limits) (steps passes : ℕ) (t : Timings) where
-  -- the answers that may be given, each with all that must hold for it
-  pub data Told : PriceAnswer → Type 0 where
-    stepsOut : L .steps < steps → Told (priced (says 1 5 0) positiveZero)
-    passesOut : steps ≤ L .steps → L .passes < passes → Told (priced (says 1 7 0) positiveZero)
-    pullOut : steps ≤ L .steps → passes ≤ L .passes → timing (t .pull) ≡ false → Told (priced (says 13 1 0) positiveZero)
-    pushOut : steps ≤ L .steps → passes ≤ L .passes → timing (t .pull) ≡ true → timing (t .push) ≡ false → Told (priced (says 13 2 0) positiveZero)
-    done : AllHold L steps passes t → Told (priced (says 0 0 0) (seconds (priceWorth steps passes t)))
+  price-sound : Sound (priceAsks L steps passes t)
+  price-sound = (
+    count-right 5 0 (L .steps) steps,
+    λ _. (count-right 7 0 (L .passes) passes, λ _. (timing-right 1 (t .pull), λ _. (timing-right 2 (t .push), λ _. tt))),
+  )
 
-  -- what is answered once each test is known
-  abbrev tested : Bool → Bool → Bool → Bool → PriceAnswer
-  tested stepsOk passesOk pullOk pushOk =
-      let r = verdict (test stepsOk (says 1 5 0) ∷ test passesOk (says 1 7 0) ∷ test pullOk (says 13 1 0) ∷ test pushOk (says 13 2 0) ∷ []) (says 0 0 0) in
-      priced r (cond (eqb (r .number) 0) (seconds (priceWorth steps passes t)) positiveZero)
+  price-holds : AllHold (priceAsks L steps passes t) ↔ Priceable L steps passes t
+  price-holds = (
+    λ (stepsIn, more).
+        let (passesIn, more) = more in
+        let (pullIn, more) = more in
+        record { stepsIn = stepsIn; passesIn = passesIn; pullIn = pullIn; pushIn = more .0 },
+    λ p. (p .stepsIn, (p .passesIn, (p .pullIn, (p .pushIn, tt)))),
+  )
 
-  pub told-answer : {r : PriceAnswer} → Told r → priceAnswer L steps passes t ≡ r
+  abbrev asked : Answer
+  asked = verdict (answers (priceAsks L steps passes t)) (says 0 0 0)
+
+  -- price is given exactly if its counts lie in their ranges and both timings are allowed
+  pub price-accepts-exactly : priceAnswer L steps passes t .number ≡ 0 ↔ Priceable L steps passes t
   unfolding priceAnswer
-  told-answer (stepsOut h) = λ i. tested (beyond h i) (leb 0 passes && leb passes (L .passes)) (timing (t .pull)) (timing (t .push))
-  told-answer (passesOut h k) = λ i. tested (within h i) (beyond k i) (timing (t .pull)) (timing (t .push))
-  told-answer (pullOut h k p) = λ i. tested (within h i) (within k i) (p i) (timing (t .push))
-  told-answer (pushOut h k p q) = λ i. tested (within h i) (within k i) (p i) (q i)
-  told-answer (done all) = λ i. tested (within (all .stepsIn) i) (within (all .passesIn) i) (all .pullIn i) (all .pushIn i)
+  price-accepts-exactly =
+      let exactly = accepted-exactly (says 0 0 0) refl (priceAsks L steps passes t) price-sound in
+      (λ e. price-holds .0 (exactly .0 e), λ p. exactly .1 (price-holds .1 p))
 
-  pub answer-told : Told (priceAnswer L steps passes t)
-  answer-told =
-      ⊎-elim
-      (λ h.
-      ⊎-elim
-      (λ k.
-      ⊎-elim
-      (λ p. ⊎-elim (λ q. given (done (record { stepsIn = h; passesIn = k; pullIn = p; pushIn = q }))) (λ q. given (pushOut h k p q)) (split (timing (t .push))))
-      (λ p. given (pullOut h k p))
-      (split (timing (t .pull))))
-      (λ k. given (passesOut h k))
-      (le-or-lt passes (L .passes)))
-      (λ h. given (stepsOut h))
-      (le-or-lt steps (L .steps))
-    where
-      given : {r : PriceAnswer} → Told r → Told (priceAnswer L steps passes t)
-      given told = subst⁻¹ Told (told-answer told) told
+  pub price-done : Priceable L steps passes t → priceAnswer L steps passes t ≡ priced (says 0 0 0) (seconds (priceWorth steps passes t))
+  unfolding priceAnswer
+  price-done p =
+      let done = verdict-done (answers (priceAsks L steps passes t)) (says 0 0 0) (price-accepts-exactly .1 p) in
+      ap (λ (r : Answer). priced r (cond (eqb (r .number) 0) (seconds (priceWorth steps passes t)) positiveZero)) done
 
-  pub told-exactly : (r : PriceAnswer) → Told r ↔ priceAnswer L steps passes t ≡ r
-  told-exactly r = (told-answer, λ e. subst Told e answer-told)
+  -- it refuses with k, A and B, and positive zero, exactly if the first ask that does not hold has number k, and tells A and B
+  pub price-refuses-exactly : (k a b : ℕ) → 0 < k → (priceAnswer L steps passes t ≡ priced (says k a b) positiveZero) ↔ FirstFails k a b (priceAsks L steps passes t)
+  unfolding priceAnswer
+  price-refuses-exactly k a b some =
+      let exactly = refused-exactly (says 0 0 0) refl k a b some (priceAsks L steps passes t) price-sound in (
+        λ e. exactly .0 (ap (λ (r : PriceAnswer). says (r .number) (r .a) (r .b)) e),
+        λ f.
+            ap (λ (r : Answer). priced r (cond (eqb (r .number) 0) (seconds (priceWorth steps passes t)) positiveZero)) (exactly .1 f)
+            ∙ ap (λ (z : Bool). priced (says k a b) (cond z (seconds (priceWorth steps passes t)) positiveZero)) (ne-eqb k 0 (λ z. omega (arith, z, some))),
+      )
 
-  pub done-exactly : priceAnswer L steps passes t .number ≡ 0 ↔ AllHold L steps passes t
-  done-exactly = (whole answer-told, λ all. ap (λ (r : PriceAnswer). r .number) (told-answer (done all)))
-    where
-      whole : {r : PriceAnswer} → Told r → r .number ≡ 0 → AllHold L steps passes t
-      whole (stepsOut h) e = absurd (omega arith)
-      whole (passesOut h k) e = absurd (omega arith)
-      whole (pullOut h k p) e = absurd (omega arith)
-      whole (pushOut h k p q) e = absurd (omega arith)
-      whole (done all) e = all
+  -- the four refusals
+  pub stepsOut : L .steps < steps → FirstFails 1 5 0 (priceAsks L steps passes t)
+  stepsOut h = inl (λ w. omega (arith, h, w .1), refl, (refl, refl))
+
+  pub passesOut : steps ≤ L .steps → L .passes < passes → FirstFails 1 7 0 (priceAsks L steps passes t)
+  passesOut h k = inr ((omega arith, h), inl (λ w. omega (arith, k, w .1), refl, (refl, refl)))
+
+  pub pullOut : steps ≤ L .steps → passes ≤ L .passes → timing (t .pull) ≡ false → FirstFails 13 1 0 (priceAsks L steps passes t)
+  pullOut h k p = inr ((omega arith, h), inr ((omega arith, k), inl (λ e. clash e p, refl, (refl, refl))))
+
+  pub pushOut : steps ≤ L .steps → passes ≤ L .passes → timing (t .pull) ≡ true → timing (t .push) ≡ false → FirstFails 13 2 0 (priceAsks L steps passes t)
+  pushOut h k p q = inr ((omega arith, h), inr ((omega arith, k), inr (p, inl (λ e. clash e q, refl, (refl, refl)))))
 
 -- ---- A price is exact, and prices compare as their sixteenths do, at any limits of up to 2^36 steps and passes.
-pub worth-small : (L : Limits) → L .steps + L .passes ≤ 2 ^ 36 → (steps passes : ℕ) (t : Timings) → AllHold L steps passes t → priceWorth steps passes t < 2 ^ 53
+pub worth-small : (L : Limits) → L .steps + L .passes ≤ 2 ^ 36 → (steps passes : ℕ) (t : Timings) → Priceable L steps passes t
+    → priceWorth steps passes t < 2 ^ 53
 worth-small L small steps passes t all =
     omega (arith, mul-le-mul-left steps (timing-most (t .pull) (all .pullIn)), mul-le-mul-left passes (timing-most (t .push) (all .pushIn)))
 
@@ -182,7 +179,7 @@ pub record PricedNight (L : Limits) : Type 0 where
   pub steps : ℕ
   pub passes : ℕ
   pub timings : Timings
-  pub all : AllHold L steps passes timings
+  pub all : Priceable L steps passes timings
 
 abbrev pub price : {L : Limits} → PricedNight L → Float
 price {L} n = priceAnswer L (n .steps) (n .passes) (n .timings) .price
@@ -192,7 +189,7 @@ worth n = priceWorth (n .steps) (n .passes) (n .timings)
 
 module _ (L : Limits) (small : L .steps + L .passes ≤ 2 ^ 36) where
   price-seconds : (n : PricedNight L) → price n ≡ seconds (worth n)
-  price-seconds n = ap (λ (r : PriceAnswer). r .price) (told-answer L (n .steps) (n .passes) (n .timings) (done (n .all)))
+  price-seconds n = ap (λ (r : PriceAnswer). r .price) (price-done L (n .steps) (n .passes) (n .timings) (n .all))
 
   small-worth : (n : PricedNight L) → worth n < 2 ^ 53
   small-worth n = worth-small L small (n .steps) (n .passes) (n .timings) (n .all)
@@ -203,7 +200,8 @@ module _ (L : Limits) (small : L .steps + L .passes ≤ 2 ^ 36) where
   pub price-sixteen-times : (n : PricedNight L) → mul binary64 (price n) sixteen ≡ ofInt binary64 (pos (worth n))
   price-sixteen-times n = rw (price-seconds n) (sixteen-times (worth n) (small-worth n))
 
-  prices-as : {doubles : Float → Float → Bool} {numbers : ℕ → ℕ → Bool} → Compares doubles numbers → (n o : PricedNight L) → doubles (price n) (price o) ≡ numbers (worth n) (worth o)
+  prices-as : {doubles : Float → Float → Bool} {numbers : ℕ → ℕ → Bool} → Compares doubles numbers → (n o : PricedNight L)
+      → doubles (price n) (price o) ≡ numbers (worth n) (worth o)
   prices-as compares n o = compares (price n) (price o) (worth n) (worth o) 16 (lit< tt) (price-value n) (price-value o)
 
   pub prices-lt : (n o : PricedNight L) → lt (price n) (price o) ≡ ltb (worth n) (worth o)
@@ -215,9 +213,13 @@ module _ (L : Limits) (small : L .steps + L .passes ≤ 2 ^ 36) where
   pub prices-eq : (n o : PricedNight L) → eq (price n) (price o) ≡ eqb (worth n) (worth o)
   prices-eq = prices-as eq-values
 
--- ---- What keeps the promise of price: an answer that is told; and for every input there is one.
-pub told-prices : (steps passes : ℕ) (t : Timings) {r r′ : PriceAnswer} → r ≡ r′ → Told limits steps passes t r′ → Prices steps passes t r
-told-prices steps passes t e told = record { answer = e ∙ sym (told-answer limits steps passes t told) }
+-- ---- What keeps the promise of price: a refusal with its reason, or the price; and for every input there is one answer.
+module _ (steps passes : ℕ) (t : Timings) {r : PriceAnswer} where
+  pub refused-prices : {k a b : ℕ} → 0 < k → r ≡ priced (says k a b) positiveZero → FirstFails k a b (priceAsks limits steps passes t) → Prices steps passes t r
+  refused-prices {k} {a} {b} some e f = record { answer = e ∙ sym (price-refuses-exactly limits steps passes t k a b some .1 f) }
+
+  pub done-prices : r ≡ priced (says 0 0 0) (seconds (priceWorth steps passes t)) → Priceable limits steps passes t → Prices steps passes t r
+  done-prices e p = record { answer = e ∙ sym (price-done limits steps passes t p) }
 
 pub price-one : (steps passes : ℕ) (t : Timings) (r r′ : PriceAnswer) → Prices steps passes t r → Prices steps passes t r′ → r ≡ r′
 price-one steps passes t r r′ p q = p .answer ∙ sym (q .answer)

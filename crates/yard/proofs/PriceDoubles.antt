@@ -1,6 +1,7 @@
 -- Doubles by their value: one value is one double, order is that of the fractions, and an exact product is rounded once.
 use Prim.Native.Nat.{ℕ, _+_, _-_, _*_, _/_, _^_, _<_}
-use native.Mathlib.Nat.{mul-pos, mul-assoc, mul-right-comm, mul-mul-mul-comm, mul-lt-mul-of-pos-right, lt-of-mul-lt-mul-right, eq-of-mul-eq-mul-right, le-of-lt, le-of-eq, le-antisymm}
+use native.Mathlib.Nat.{mul-pos, mul-assoc, mul-right-comm, mul-mul-mul-comm, mul-lt-mul-of-pos-right, lt-of-mul-lt-mul-right, eq-of-mul-eq-mul-right}
+use native.Mathlib.Nat.{le-of-lt, le-of-eq, le-antisymm}
 use mathlib.Core.Path.{_≡_, refl, sym, ap, _∙_}
 use mathlib.Core.Logic.{⊎-elim}
 use mathlib.Core.Bool.{Bool, true, false, not, _&&_, _||_, cond}
@@ -34,7 +35,8 @@ pub value-number : (x : Float) (s : Bool) (a c : ℕ) → HasValue x s a c → T
 unfolding isNan
 value-number (fin t m e) s a c v = tt
 
-pub mul-values : (f : Format) (x y : Float) (a c b d : ℕ) → 0 < c → 0 < d → HasValue x false a c → HasValue y false b d → mul f x y ≡ round f false (a * b) (c * d)
+pub mul-values : (f : Format) (x y : Float) (a c b d : ℕ) → 0 < c → 0 < d → HasValue x false a c → HasValue y false b d
+    → mul f x y ≡ round f false (a * b) (c * d)
 unfolding mul
 mul-values f (fin s m e) (fin t n g) a c b d C D v w =
     (λ i. round f (unlike (v .0 i) (w .0 i)) (m * up e * (n * up g)) (down e * down g))
@@ -64,7 +66,8 @@ eqb-scales x y c C =
 crossed : (test : ℕ → ℕ → Bool) → Scales test → (x y p q a b c : ℕ) → 0 < p → 0 < q → 0 < c → x * c ≡ a * p → y * c ≡ b * q → test (x * q) (y * p) ≡ test a b
 crossed test scales x y p q a b c P Q C v w =
     sym (scales (x * q) (y * p) c C)
-    ∙ (λ i. test ((mul-right-comm x q c ∙ ap (λ (z : ℕ). z * q) v ∙ mul-assoc a p q) i) ((mul-right-comm y p c ∙ ap (λ (z : ℕ). z * p) w ∙ mul-right-comm b q p ∙ mul-assoc b p q) i))
+    ∙ (λ i. test ((mul-right-comm x q c ∙ ap (λ (z : ℕ). z * q) v ∙ mul-assoc a p q) i)
+    ((mul-right-comm y p c ∙ ap (λ (z : ℕ). z * p) w ∙ mul-right-comm b q p ∙ mul-assoc b p q) i))
     ∙ scales a b (p * q) (mul-pos P Q)
 
 -- two doubles that are not negative compare as their values do

@@ -1,4 +1,5 @@
--- Laws of the replay: where no car is pulled early, the yard at stage s is the inbound list sorted stably by the codes' low s bits, each car on the track it is bound for.
+-- Laws of the replay: where no car is pulled early, the yard at stage s is the inbound list sorted stably by the codes' low s
+-- bits, each car on the track it is bound for.
 use mathlib.Core.Path.{_≡_, refl, sym, ap, ap₂, _∙_, subst}
 use mathlib.Core.Logic.{_⊎_, inl, inr, ⊎-elim}
 use mathlib.Core.Bool.{Bool, true, false, cond, not, _&&_}
@@ -13,7 +14,8 @@ use Rattle.yard.specs.Words.{tally, total, count, keep, first, upFrom}
 use Rattle.yard.specs.Replay.{Yard, bit, nextStep, target, rollCar, rollIn, emptied, step, stage}
 use Rattle.yard.proofs.Bools.{split, clash, same-test, not-so}
 use Rattle.yard.proofs.First.{first-from, first-le, first-next}
-use Rattle.yard.proofs.Lists.{total-append, total-length, total-keep, total-add, total-none, total-same, count-append, count-keep, count-kept, keep-append, keep-same, keep-keep, keep-none}
+use Rattle.yard.proofs.Lists.{total-append, total-length, total-keep, total-add, total-none, total-same, count-append, count-keep, count-kept}
+use Rattle.yard.proofs.Lists.{keep-append, keep-same, keep-keep, keep-none}
 
 -- ---- the next step of a code
 
@@ -53,12 +55,15 @@ sorted-count code inbound s c = sorted-total code inbound (λ y. tally (eqb c y)
 -- ---- rolling in
 
 module _ (W h : ℕ) (code dest : ℕ → ℕ) where
-  pub rollIn-standing : (s : ℕ) (yard : Yard) (l : List ℕ) (t : ℕ) → rollIn W h code dest s yard l .standing t ≡ yard .standing t ++ keep (λ c. eqb t (target W h code dest s c)) l
+  pub rollIn-standing : (s : ℕ) (yard : Yard) (l : List ℕ) (t : ℕ)
+      → rollIn W h code dest s yard l .standing t ≡ yard .standing t ++ keep (λ c. eqb t (target W h code dest s c)) l
   rollIn-standing s yard [] t = sym (append-nil (yard .standing t))
   rollIn-standing s yard (x ∷ l) t =
       rollIn-standing s (rollCar W h code dest s yard x) l t ∙ go (eqb t (target W h code dest s x))
     where
-      go : (b : Bool) → (yard .standing t ++ cond b (x ∷ []) []) ++ keep (λ c. eqb t (target W h code dest s c)) l ≡ yard .standing t ++ cond b (x ∷ keep (λ c. eqb t (target W h code dest s c)) l) (keep (λ c. eqb t (target W h code dest s c)) l)
+      go : (b : Bool) → (yard .standing t ++ cond b (x ∷ []) []) ++ keep
+          (λ c. eqb t (target W h code dest s c)) l ≡ yard .standing t ++
+          cond b (x ∷ keep (λ c. eqb t (target W h code dest s c)) l) (keep (λ c. eqb t (target W h code dest s c)) l)
       go true = append-assoc (yard .standing t) (x ∷ []) _
       go false = ap (λ (u : List ℕ). u ++ keep (λ c. eqb t (target W h code dest s c)) l) (append-nil (yard .standing t))
 
@@ -74,7 +79,8 @@ module _ (W h : ℕ) (code dest : ℕ → ℕ) where
 
   pub target-unset : (s c : ℕ) → s < h → bit s (code c) ≡ false → target W h code dest (suc s) c ≡ target W h code dest s c
   target-unset s c l e =
-      let n : nextStep h (code c) s ≡ nextStep h (code c) (suc s) = nextStep-step h (code c) s l ∙ ap (λ (b : Bool). cond b s (nextStep h (code c) (suc s))) e in
+      let n : nextStep h (code c) s ≡ nextStep h (code c) (suc s) = nextStep-step h (code c) s l
+      ∙ ap (λ (b : Bool). cond b s (nextStep h (code c) (suc s))) e in
       ap (λ (k : ℕ). cond (ltb k h) (k % W) (dest c)) (sym n)
 
   -- at stage h every car is on its destination
@@ -90,47 +96,60 @@ module _ (W h : ℕ) (code dest : ℕ → ℕ) where
     unfoldable pub Clean : ℕ → Type 0
     Clean s = (k : ℕ) → k < s → (c : ℕ) → 0 < count c (taken k) → bit k (code c) ≡ true
 
-    pub standing-next : (s t : ℕ) → stage W h code dest inbound (suc s) .standing t ≡ cond (eqb t (s % W)) [] (stage W h code dest inbound s .standing t) ++ keep (λ c. eqb t (target W h code dest (suc s) c)) (taken s)
+    pub standing-next : (s t : ℕ)
+        → stage W h code dest inbound (suc s) .standing t ≡ cond (eqb t (s % W)) [] (stage W h code dest inbound s .standing t) ++
+        keep (λ c. eqb t (target W h code dest (suc s) c)) (taken s)
     standing-next s t = rollIn-standing (suc s) (emptied (s % W) (stage W h code dest inbound s)) (taken s) t
 
     pub rolled-next : (s : ℕ) → stage W h code dest inbound (suc s) .rolled ≡ stage W h code dest inbound s .rolled + length (taken s)
     rolled-next s = rollIn-rolled (suc s) (emptied (s % W) (stage W h code dest inbound s)) (taken s)
 
     -- the law from which the others follow
-    module _ (s : ℕ) (l : s < h) (here : (t : ℕ) → stage W h code dest inbound s .standing t ≡ keep (λ c. eqb t (target W h code dest s c)) (sorted code inbound s)) (clean : (c : ℕ) → 0 < count c (taken s) → bit s (code c) ≡ true) where
+    module _ (s : ℕ) (l : s < h) (here : (t : ℕ)
+        → stage W h code dest inbound s .standing t ≡ keep (λ c. eqb t (target W h code dest s c)) (sorted code inbound s))
+        (clean : (c : ℕ) → 0 < count c (taken s) → bit s (code c) ≡ true) where
       -- a car stands on the track of step s exactly if its code names that step
       bound : (c : ℕ) → 0 < count c (sorted code inbound s) → eqb (s % W) (target W h code dest s c) ≡ bit s (code c)
       bound c m =
           same-test _ _
-          (λ e. clean c (subst (λ (u : List ℕ). 0 < count c u) (sym (here (s % W))) (subst (λ (k : ℕ). 0 < k) (sym (count-keep c _ (sorted code inbound s) ∙ ap (λ (b : Bool). cond b (count c (sorted code inbound s)) 0) e)) m)))
+          (λ e. clean c (subst (λ (u : List ℕ). 0 < count c u) (sym (here (s % W)))
+          (subst (λ (k : ℕ). 0 < k) (sym (count-keep c _ (sorted code inbound s) ∙ ap (λ (b : Bool). cond b (count c (sorted code inbound s)) 0) e)) m)))
           (λ e. eq-eqb (s % W) (target W h code dest s c) (sym (target-set s c l e)))
 
       pub taken-kept : taken s ≡ keep (λ c. bit s (code c)) (sorted code inbound s)
       taken-kept = here (s % W) ∙ keep-same _ _ (sorted code inbound s) bound
 
       -- the cars that step s leaves where they stand
-      left : (t : ℕ) → cond (eqb t (s % W)) [] (stage W h code dest inbound s .standing t) ≡ keep (λ c. eqb t (target W h code dest (suc s) c)) (keep (λ c. not (bit s (code c))) (sorted code inbound s))
+      left : (t : ℕ) → cond (eqb t (s % W)) [] (stage W h code dest inbound s .standing t) ≡ keep
+          (λ c. eqb t (target W h code dest (suc s) c)) (keep (λ c. not (bit s (code c))) (sorted code inbound s))
       left t = go (eqb t (s % W)) refl ∙ sym (keep-keep (λ c. eqb t (target W h code dest (suc s) c)) (λ c. not (bit s (code c))) (sorted code inbound s))
         where
-          stay : (c : ℕ) (b : Bool) → bit s (code c) ≡ b → (t ≡ s % W → ⊥) → eqb t (target W h code dest s c) ≡ (not b && eqb t (target W h code dest (suc s) c))
+          stay : (c : ℕ) (b : Bool) → bit s (code c) ≡ b → (t ≡ s % W → ⊥)
+              → eqb t (target W h code dest s c) ≡ (not b && eqb t (target W h code dest (suc s) c))
           stay c true e n = ne-eqb t (target W h code dest s c) (λ q. n (q ∙ target-set s c l e))
           stay c false e n = ap (λ (k : ℕ). eqb t k) (sym (target-unset s c l e))
 
-          gone : (c : ℕ) (b : Bool) → bit s (code c) ≡ b → 0 < count c (sorted code inbound s) → t ≡ s % W → (not b && eqb t (target W h code dest (suc s) c)) ≡ false
+          gone : (c : ℕ) (b : Bool) → bit s (code c) ≡ b → 0 < count c (sorted code inbound s) → t ≡ s % W
+              → (not b && eqb t (target W h code dest (suc s) c)) ≡ false
           gone c true e m q = refl
           gone c false e m q = ap₂ (λ (u v : ℕ). eqb u v) q (target-unset s c l e) ∙ (bound c m ∙ e)
 
-          go : (b : Bool) → eqb t (s % W) ≡ b → cond b [] (stage W h code dest inbound s .standing t) ≡ keep (λ c. not (bit s (code c)) && eqb t (target W h code dest (suc s) c)) (sorted code inbound s)
+          go : (b : Bool) → eqb t (s % W) ≡ b
+              → cond b [] (stage W h code dest inbound s .standing t) ≡ keep
+              (λ c. not (bit s (code c)) && eqb t (target W h code dest (suc s) c)) (sorted code inbound s)
           go true e = sym (keep-none _ (sorted code inbound s) (λ c m. gone c (bit s (code c)) refl m (eqb-true t (s % W) e)))
           go false e = here t ∙ keep-same _ _ (sorted code inbound s) (λ c m. stay c (bit s (code c)) refl (eqb-false t (s % W) e))
 
-      standing-step : (t : ℕ) → stage W h code dest inbound (suc s) .standing t ≡ keep (λ c. eqb t (target W h code dest (suc s) c)) (sorted code inbound (suc s))
+      standing-step : (t : ℕ)
+          → stage W h code dest inbound (suc s) .standing t ≡ keep (λ c. eqb t (target W h code dest (suc s) c)) (sorted code inbound (suc s))
       standing-step t =
           standing-next s t ∙
           (ap₂ (λ (u v : List ℕ). u ++ v) (left t) (ap (λ (u : List ℕ). keep (λ c. eqb t (target W h code dest (suc s) c)) u) taken-kept) ∙
-          sym (keep-append (λ c. eqb t (target W h code dest (suc s) c)) (keep (λ c. not (bit s (code c))) (sorted code inbound s)) (keep (λ c. bit s (code c)) (sorted code inbound s))))
+          sym (keep-append (λ c. eqb t (target W h code dest (suc s) c))
+          (keep (λ c. not (bit s (code c))) (sorted code inbound s)) (keep (λ c. bit s (code c)) (sorted code inbound s))))
 
-    pub standing-sorted : (s : ℕ) → s ≤ h → Clean s → (t : ℕ) → stage W h code dest inbound s .standing t ≡ keep (λ c. eqb t (target W h code dest s c)) (sorted code inbound s)
+    pub standing-sorted : (s : ℕ) → s ≤ h → Clean s → (t : ℕ)
+        → stage W h code dest inbound s .standing t ≡ keep (λ c. eqb t (target W h code dest s c)) (sorted code inbound s)
     unfolding Clean
     standing-sorted zero l clean t = rollIn-standing 0 _ inbound t
     standing-sorted (suc s) l clean t =

@@ -55,12 +55,19 @@ module _ (code : ℕ → ℕ) (inbound : List ℕ) (a b : ℕ) (differ : a ≡ b
       low c k e = low-suc s (code c) ∙ ap (λ (d : Bool). tally d * 2 ^ s + code c % 2 ^ s) e
 
       in-u : (c : ℕ) → 0 < count c inbound → bit s (code c) ≡ false → 0 < count c u
-      in-u c m e = omega (arith, count-keep c (λ c. not (bit s (code c))) (sorted code inbound s), ap (λ (d : Bool). cond (not d) (count c (sorted code inbound s)) 0) e, sorted-count code inbound s c)
+      in-u c m e =
+          omega (
+            arith,
+            count-keep c (λ c. not (bit s (code c))) (sorted code inbound s),
+            ap (λ (d : Bool). cond (not d) (count c (sorted code inbound s)) 0) e,
+            sorted-count code inbound s c,
+          )
 
       not-u : (c : ℕ) → bit s (code c) ≡ true → count c u ≡ 0
       not-u c e = count-keep c (λ c. not (bit s (code c))) (sorted code inbound s) ∙ ap (λ (d : Bool). cond (not d) (count c (sorted code inbound s)) 0) e
 
-      shifted : (k : Bool) → bit s (code a) ≡ k → bit s (code b) ≡ k → ahead (code a % 2 ^ s) (code b % 2 ^ s) (before a b inbound) ≡ ahead (code a % 2 ^ suc s) (code b % 2 ^ suc s) (before a b inbound)
+      shifted : (k : Bool) → bit s (code a) ≡ k → bit s (code b) ≡ k
+          → ahead (code a % 2 ^ s) (code b % 2 ^ s) (before a b inbound) ≡ ahead (code a % 2 ^ suc s) (code b % 2 ^ suc s) (before a b inbound)
       shifted k e f =
           ahead-alike (code a % 2 ^ s) (code b % 2 ^ s) (code a % 2 ^ suc s) (code b % 2 ^ suc s) (before a b inbound)
           (λ m. omega (arith, low a k e, low b k f))
@@ -81,10 +88,13 @@ module _ (code : ℕ → ℕ) (inbound : List ℕ) (a b : ℕ) (differ : a ≡ b
           (r ∙ shifted true e f))
       go false true e f r =
           before-across a b u v (in-u a ma e) (not-u b f) ∙
-          sym (ahead-lt (code a % 2 ^ suc s) (code b % 2 ^ suc s) (before a b inbound) (omega (arith, low a false e, low b true f, mod-lt (code a) (pow-pos s))))
+          sym (ahead-lt (code a % 2 ^ suc s) (code b % 2 ^ suc s) (before a b inbound)
+          (omega (arith, low a false e, low b true f, mod-lt (code a) (pow-pos s))))
       go true false e f r =
-          le-ltb (place a (u ++ v)) (place b (u ++ v)) (le-of-lt (ltb-true (place b (u ++ v)) (place a (u ++ v)) (before-across b a u v (in-u b mb f) (not-u a e)))) ∙
-          sym (ahead-gt (code a % 2 ^ suc s) (code b % 2 ^ suc s) (before a b inbound) (omega (arith, low a true e, low b false f, mod-lt (code b) (pow-pos s))))
+          le-ltb (place a (u ++ v)) (place b (u ++ v))
+          (le-of-lt (ltb-true (place b (u ++ v)) (place a (u ++ v)) (before-across b a u v (in-u b mb f) (not-u a e)))) ∙
+          sym (ahead-gt (code a % 2 ^ suc s) (code b % 2 ^ suc s) (before a b inbound)
+          (omega (arith, low a true e, low b false f, mod-lt (code b) (pow-pos s))))
 
 -- the rule for a pair says just that: code not smaller, and greater where the pair is a break
 pub ruled-ahead : (x y : ℕ) (tie : Bool) → ahead x y tie ≡ ruled x y (not tie)

@@ -30,7 +30,8 @@ module _ (W h : ℕ) (code dest : ℕ → ℕ) where
       go : (p q : Bool) → eqb l w ≡ p → eqb t w ≡ q → cond q 0 (cond (eqb t l) n 0) + cond (eqb t g) (cond (eqb w l) n 0) 0 ≡ cond (eqb t (cond p g l)) n 0
       go true true e f = ap (λ (b : Bool). 0 + cond (eqb t g) (cond b n 0) 0) (eq-eqb w l (sym (eqb-true l w e))) ∙ omega arith
       go true false e f =
-          ap₂ (λ (b c : Bool). cond b n 0 + cond (eqb t g) (cond c n 0) 0) (ne-eqb t l (λ d. eqb-false t w f (d ∙ eqb-true l w e))) (eq-eqb w l (sym (eqb-true l w e))) ∙ omega arith
+          ap₂ (λ (b c : Bool). cond b n 0 + cond (eqb t g) (cond c n 0) 0)
+          (ne-eqb t l (λ d. eqb-false t w f (d ∙ eqb-true l w e))) (eq-eqb w l (sym (eqb-true l w e))) ∙ omega arith
       go false true e f =
           ap (λ (b : Bool). 0 + cond (eqb t g) (cond b n 0) 0) (ne-eqb w l (λ d. eqb-false l w e (sym d))) ∙
           (ap (λ (k : ℕ). 0 + k) (stays (eqb t g)) ∙ sym (ap (λ (b : Bool). cond b n 0) (ne-eqb t l (λ d. eqb-false l w e (sym d ∙ eqb-true t w f)))))
@@ -38,12 +39,15 @@ module _ (W h : ℕ) (code dest : ℕ → ℕ) where
 
   module _ (inbound : List ℕ) where
     pub standing-count : (s c t : ℕ) → count c (stage W h code dest inbound s .standing t) ≡ cond (eqb t (location s c)) (count c inbound) 0
-    standing-count zero c t = ap (λ (u : List ℕ). count c u) (rollIn-standing W h code dest 0 _ inbound t) ∙ count-keep c (λ x. eqb t (target W h code dest 0 x)) inbound
+    standing-count zero c t = ap (λ (u : List ℕ). count c u) (rollIn-standing W h code dest 0 _ inbound t)
+        ∙ count-keep c (λ x. eqb t (target W h code dest 0 x)) inbound
     standing-count (suc s) c t =
         ap (λ (u : List ℕ). count c u) (standing-next W h code dest inbound s t) ∙
-        (count-append c (cond (eqb t (s % W)) [] (stage W h code dest inbound s .standing t)) (keep (λ x. eqb t (target W h code dest (suc s) x)) (taken W h code dest inbound s)) ∙
+        (count-append c (cond (eqb t (s % W)) [] (stage W h code dest inbound s .standing t))
+        (keep (λ x. eqb t (target W h code dest (suc s) x)) (taken W h code dest inbound s)) ∙
         (ap₂ (λ (a b : ℕ). a + b) (cleared (eqb t (s % W)) ∙ ap (λ (k : ℕ). cond (eqb t (s % W)) 0 k) (standing-count s c t))
-        (count-keep c (λ x. eqb t (target W h code dest (suc s) x)) (taken W h code dest inbound s) ∙ ap (λ (k : ℕ). cond (eqb t (target W h code dest (suc s) c)) k 0) (standing-count s c (s % W))) ∙
+        (count-keep c (λ x. eqb t (target W h code dest (suc s) x)) (taken W h code dest inbound s)
+        ∙ ap (λ (k : ℕ). cond (eqb t (target W h code dest (suc s) c)) k 0) (standing-count s c (s % W))) ∙
         moved t (s % W) (location s c) (target W h code dest (suc s) c) (count c inbound)))
       where
         cleared : (b : Bool) → count c (cond b [] (stage W h code dest inbound s .standing t)) ≡ cond b 0 (count c (stage W h code dest inbound s .standing t))

@@ -14,6 +14,7 @@ use Rattle.yard.specs.Limits.{Limits}
 use Rattle.yard.specs.Words.{first, listed}
 use Rattle.yard.specs.Night.{sum, itemOf}
 use Rattle.yard.specs.Answers.{says, test, countTest, listTest, sumTest, badPlace, firstBad, inboundTest, wideCode, codeTest}
+use Rattle.yard.specs.Demands.{InLimits}
 use Rattle.yard.specs.Calls.{countTests}
 use Rattle.yard.proofs.Bools.{and-left, and-right, and-both, not-false}
 use Rattle.yard.proofs.Numbers.{le-or-lt}
@@ -25,6 +26,10 @@ use Rattle.yard.proofs.Bits.{Below}
 pub asks : (b : Bool) (k a c : ℕ) → (test b (says (suc k) a c) .number ≡ 0) ↔ (b ≡ true)
 asks b k a c = test-passed b (says (suc k) a c) (suc-ne-zero k)
 
+-- what a passed test asks for, its own Bool tells
+pub passed-exactly : {P : Type 0} (b : Bool) (k a c : ℕ) → ((test b (says (suc k) a c) .number ≡ 0) ↔ P) → (b ≡ true) ↔ P
+passed-exactly b k a c e = let own = asks b k a c in (λ t. e .0 (own .1 t), λ h. own .0 (e .1 h))
+
 pub count-passed : (a low high x : ℕ) → (countTest a low high x .number ≡ 0) ↔ ((low ≤ x) × (x ≤ high))
 count-passed a low high x =
     let within = asks (leb low x && leb x high) 0 a 0 in (
@@ -32,22 +37,22 @@ count-passed a low high x =
       λ e. within .1 (and-both (le-leb low x (e .0)) (le-leb x high (e .1))),
     )
 
--- the five counts of a call are within the limits
-pub record Within (L : Limits) (n m W C h : ℕ) : Type 0 where
-  pub cars : (1 ≤ n) × (n ≤ L .cars)
-  pub trains : (1 ≤ m) × (m ≤ L .trains)
-  pub tracks : (1 ≤ W) × (W ≤ L .tracks)
-  pub room : (1 ≤ C) × (C ≤ L .room)
-  pub steps : (0 ≤ h) × (h ≤ L .steps)
-
-pub counts-passed : (L : Limits) (n m W C h : ℕ) → Passed (countTests L n m W C h) ↔ Within L n m W C h
+-- the five counts of a call are within the limits exactly if their tests are passed
+pub counts-passed : (L : Limits) (n m W C h : ℕ) → Passed (countTests L n m W C h) ↔ InLimits L n m W C h
 counts-passed L n m W C h =
     let cars = count-passed 1 1 (L .cars) n in
     let trains = count-passed 2 1 (L .trains) m in
     let tracks = count-passed 3 1 (L .tracks) W in
     let room = count-passed 4 1 (L .room) C in
     let steps = count-passed 5 0 (L .steps) h in (
-      λ t. record { cars = cars .0 (t .0); trains = trains .0 (t .1 .0); tracks = tracks .0 (t .1 .1 .0); room = room .0 (t .1 .1 .1 .0); steps = steps .0 (t .1 .1 .1 .1 .0) },
+      λ t. record {
+        cars = cars .0 (t .0);
+        trains = trains .0 (t .1 .0);
+        tracks = tracks .0 (t .1 .1 .0);
+        room = room .0
+            (t .1 .1 .1 .0);
+        steps = steps .0 (t .1 .1 .1 .1 .0);
+      },
       λ r. (cars .1 (r .cars), (trains .1 (r .trains), (tracks .1 (r .tracks), (room .1 (r .room), (steps .1 (r .steps), tt))))),
     )
 
@@ -99,7 +104,8 @@ inbound-within inbound e =
     items-below inbound (omega arith)
     (λ j l m.
     let car = itemOf inbound j in
-    let range : (leb 1 car && leb car n) ≡ true = not-false (leb 1 car && leb car n) (neither (not (leb 1 car && leb car n)) (listed car (take (j - 1) inbound)) (none j l m)) in
+    let range : (leb 1 car && leb car n) ≡ true =
+    not-false (leb 1 car && leb car n) (neither (not (leb 1 car && leb car n)) (listed car (take (j - 1) inbound)) (none j l m)) in
     omega (arith, leb-true car n (and-right (leb 1 car) (leb car n) range)))
 
 -- no train is longer than all together

@@ -86,6 +86,7 @@ breaks-suc inbound j n =
     (total-last (λ x. tally (broken inbound x)) j n ∙ ap (λ (k : ℕ). k + tally (broken inbound (j + n))) (sym (length-passing (broken inbound) j n)))
 
 -- the breaks before a car, by its train's number
-pub breaksBefore-train : (lengths inbound : List ℕ) (i c : ℕ) → trainOf lengths c ≡ suc i → breaksBefore lengths inbound c ≡ breaks inbound (suc (sum (take i lengths))) (c - suc (sum (take i lengths)))
+pub breaksBefore-train : (lengths inbound : List ℕ) (i c : ℕ) → trainOf lengths c ≡ suc i
+    → breaksBefore lengths inbound c ≡ breaks inbound (suc (sum (take i lengths))) (c - suc (sum (take i lengths)))
 breaksBefore-train lengths inbound i c e =
     ap (λ (head : ℕ). breaks inbound head (c - head)) (ap (λ (t : ℕ). firstCar lengths t) e ∙ firstCar-suc lengths i)

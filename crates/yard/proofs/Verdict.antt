@@ -8,7 +8,7 @@ use lib.Dec.{eqb}
 use lib.ListN.{length, drop}
 use borrow.Author.Tests.{eqb-true, eqb-false, eq-eqb, ne-eqb}
 use Rattle.yard.specs.declared.Answer.{Answer}
-use Rattle.yard.specs.Answers.{says, test, verdict, written}
+use Rattle.yard.specs.Answers.{says, test, verdict, onto, written}
 
 -- every test of a list is passed
 abbrev pub Passed : List Answer → Type 0
@@ -66,11 +66,11 @@ pub verdict-done : (ts : List Answer) (done : Answer) → verdict ts done .numbe
 verdict-done ts done e = verdict-passed ts done (verdict-passes ts done .0 e .0)
 
 -- a lent buffer after an accepted call, and after a refused one
-pub written-accepted : (r : Answer) (items buffer : List ℕ) → r .number ≡ 0 → written r items buffer ≡ items ++ drop (length items) buffer
-written-accepted r items buffer e = ap (λ b. cond b (items ++ drop (length items) buffer) buffer) (eq-eqb (r .number) 0 e)
+pub written-accepted : (r : Answer) (items buffer : List ℕ) → r .number ≡ 0 → written r items buffer ≡ onto items buffer
+written-accepted r items buffer e = ap (λ b. cond b (onto items buffer) buffer) (eq-eqb (r .number) 0 e)
 
 pub written-refused : (r : Answer) (items buffer : List ℕ) → (r .number ≡ 0 → ⊥) → written r items buffer ≡ buffer
-written-refused r items buffer h = ap (λ b. cond b (items ++ drop (length items) buffer) buffer) (ne-eqb (r .number) 0 h)
+written-refused r items buffer h = ap (λ b. cond b (onto items buffer) buffer) (ne-eqb (r .number) 0 h)
 
 -- ---- a call that goes from test to test
 
@@ -87,7 +87,8 @@ verdict-kept : (ts : List Answer) (x : Answer) → (verdict ts (says 0 0 0) .num
 verdict-kept [] x n = absurd (n refl)
 verdict-kept (t ∷ ts) x n = go (eqb (t .number) 0) (verdict-kept ts x) n
   where
-    go : (b : Bool) → ((verdict ts (says 0 0 0) .number ≡ 0 → ⊥) → verdict ts (says 0 0 0) ≡ verdict ts x) → (cond b (verdict ts (says 0 0 0)) t .number ≡ 0 → ⊥) → cond b (verdict ts (says 0 0 0)) t ≡ cond b (verdict ts x) t
+    go : (b : Bool) → ((verdict ts (says 0 0 0) .number ≡ 0 → ⊥) → verdict ts (says 0 0 0) ≡ verdict ts x)
+        → (cond b (verdict ts (says 0 0 0)) t .number ≡ 0 → ⊥) → cond b (verdict ts (says 0 0 0)) t ≡ cond b (verdict ts x) t
     go true later n = later n
     go false later n = refl
 
@@ -96,7 +97,9 @@ module _ (ts us : List Answer) (done r : Answer) (is : r ≡ verdict ts (says 0 
   stops-all n = is ∙ (verdict-kept ts (verdict us done) (λ z. n (ap (λ (v : Answer). v .number) is ∙ z)) ∙ sym (verdict-append ts us done))
 
   pub goes-on-all : (s : Answer) → r .number ≡ 0 → s ≡ verdict us done → s ≡ verdict (ts ++ us) done
-  goes-on-all s z e = e ∙ (sym (verdict-passed ts (verdict us done) (verdict-passes ts (says 0 0 0) .0 (sym (ap (λ (v : Answer). v .number) is) ∙ z) .0)) ∙ sym (verdict-append ts us done))
+  goes-on-all s z e = e
+      ∙ (sym (verdict-passed ts (verdict us done)
+      (verdict-passes ts (says 0 0 0) .0 (sym (ap (λ (v : Answer). v .number) is) ∙ z) .0)) ∙ sym (verdict-append ts us done))
 
 -- the last test of a call that only tests is its answer
 pub last-is : (b : Bool) (refusal : Answer) → (refusal .number ≡ 0 → ⊥) → test b refusal ≡ verdict (test b refusal ∷ []) (says 0 0 0)
@@ -108,6 +111,7 @@ pub verdict-nested : (ts : List Answer) (x : Answer) → verdict (verdict ts (sa
 verdict-nested [] x = refl
 verdict-nested (t ∷ ts) x = go (eqb (t .number) 0) refl (verdict-nested ts x)
   where
-    go : (b : Bool) → eqb (t .number) 0 ≡ b → verdict (verdict ts (says 0 0 0) ∷ []) x ≡ verdict ts x → verdict (cond b (verdict ts (says 0 0 0)) t ∷ []) x ≡ cond b (verdict ts x) t
+    go : (b : Bool) → eqb (t .number) 0 ≡ b → verdict (verdict ts (says 0 0 0) ∷ []) x ≡ verdict ts x
+        → verdict (cond b (verdict ts (says 0 0 0)) t ∷ []) x ≡ cond b (verdict ts x) t
     go true e later = later
     go false e later = ap (λ (b : Bool). cond b x t) e

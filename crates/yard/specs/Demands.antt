@@ -1,16 +1,20 @@
--- What the demands speak of, in plain statements: a well-formed night, well-formed codes, what a good replay does, and what each call asks of its input.
-use Prim.Native.Nat.{ℕ, _≤_, _<_, _^_}
+-- What the demands speak of, in plain statements: a well-formed night, well-formed codes, what a good replay does, and
+-- what makes a place, a step or a pair bad.
+use Prim.Native.Nat.{ℕ, suc, _≤_, _<_, _^_}
 use mathlib.Core.Path.{_≡_}
 use mathlib.Core.Logic.{_⊎_}
-use mathlib.Core.Bool.{true}
-use mathlib.Core.List.{List, [], _∷_, _++_}
+use mathlib.Core.Bool.{true, false}
+use mathlib.Core.List.{List}
 use lib.ListN.{length}
 use Rattle.yard.specs.Words.{count}
 use Rattle.yard.specs.Limits.{Limits}
-use Rattle.yard.specs.Night.{Night, Plan, cars, sum, itemOf, carsOf}
+use Rattle.yard.specs.Night.{Night, Plan, cars, sum, itemOf, pair, broken, carsOf}
 use Rattle.yard.specs.Replay.{bit, codeOf, pulled, pullSize, built}
-use Rattle.yard.specs.Derived.{derivedPlan}
-use Rattle.yard.specs.Card.{card, headField, cardPlan, rightLength, endsRight}
+
+-- x is the least number of which P holds
+pub record Least (P : ℕ → Type 0) (x : ℕ) : Type 0 where
+  pub holds : P x
+  pub least : (y : ℕ) → P y → x ≤ y
 
 -- x lies in a range
 abbrev pub Within : ℕ → ℕ → ℕ → Type 0
@@ -40,15 +44,66 @@ HasRoom p = (k : ℕ) → k < p .steps → pullSize p k ≤ p .night .room
 unfoldable pub BuildsTrains : Plan → Type 0
 BuildsTrains p = (t : ℕ) → Within 1 (length (p .night .lengths)) t → built p t ≡ carsOf (p .night .lengths) t
 
+-- the counts of a night, and its steps or step limit, lie in their ranges
+pub record InLimits (L : Limits) (n m W C h : ℕ) : Type 0 where
+  pub cars : Within 1 (L .cars) n
+  pub trains : Within 1 (L .trains) m
+  pub tracks : Within 1 (L .tracks) W
+  pub room : Within 1 (L .room) C
+  pub steps : Within 0 (L .steps) h
+
 -- the lists of a night, and the codes of a plan, are well formed
 pub record Listed (lengths inbound : List ℕ) : Type 0 where
   pub nonempty : NoneEmpty lengths
   pub adds : sum lengths ≡ length inbound
   pub once : EachOnce inbound
 
+-- a night whose counts and lists are well formed, with its steps or step limit
+pub record Given (L : Limits) (n : Night) (h : ℕ) : Type 0 where
+  pub counts : InLimits L (length (n .inbound)) (length (n .lengths)) (n .tracks) (n .room) h
+  pub lists : Listed (n .lengths) (n .inbound)
+
 pub record CodesFormed (p : Plan) : Type 0 where
   pub each : length (p .codes) ≡ length (p .night .inbound)
   pub below : CodesBelow (p .steps) (p .codes)
+
+-- a train of length 0, and a car whose code is not below 2^h
+abbrev pub EmptyTrain : List ℕ → ℕ → Type 0
+EmptyTrain lengths t = Within 1 (length lengths) t × (itemOf lengths t ≡ 0)
+
+abbrev pub WideCode : ℕ → List ℕ → ℕ → Type 0
+WideCode h codes car = Within 1 (length codes) car × (2 ^ h ≤ itemOf codes car)
+
+-- a number met before, at place j; a place with a number out of range or met before
+abbrev pub MetAt : List ℕ → ℕ → ℕ → Type 0
+MetAt inbound k j = (1 ≤ j) × (j < k) × (itemOf inbound j ≡ itemOf inbound k)
+
+abbrev pub BadPlace : List ℕ → ℕ → Type 0
+BadPlace inbound k =
+    Within 1 (length inbound) k ×
+    ((Within 1 (length inbound) (itemOf inbound k) → ⊥) ⊎ ((j : ℕ) × MetAt inbound k j))
+
+-- step k takes a car that its code does not name; some car
+unfoldable pub TakesEarly : Plan → ℕ → ℕ → Type 0
+TakesEarly p k car = (0 < count car (pulled p k)) × (bit k (codeOf p car) ≡ false)
+
+unfoldable pub EarlyStep : Plan → ℕ → Type 0
+EarlyStep p k = (k < p .steps) × ((car : ℕ) × TakesEarly p k car)
+
+-- step k finds more on its track than there is room for
+unfoldable pub OverfullStep : Plan → ℕ → Type 0
+OverfullStep p k = (k < p .steps) × (p .night .room < pullSize p k)
+
+-- the rule for a pair j, j + 1 of one train: the code of j + 1 is at least that of j, and greater where the pair is a break
+pub record Ruled (p : Plan) (j : ℕ) : Type 0 where
+  pub atLeast : codeOf p j ≤ codeOf p (suc j)
+  pub greater : broken (p .night .inbound) j ≡ true → codeOf p j < codeOf p (suc j)
+
+-- car c is the second of a pair of one train that breaks the rule
+unfoldable pub BreaksRule : Plan → ℕ → Type 0
+BreaksRule p c =
+    (j : ℕ) × (c ≡ suc j) × Within 1 (length (p .night .inbound)) j × Within 1 (length (p .night .inbound)) c ×
+    (pair (p .night .lengths) j ≡ true) × (Ruled p j → ⊥)
 
 -- room aside, a plan that builds the trains of its night; and a night for which one keeps to a step limit, whatever codes it gives
 pub record Sorts (p : Plan) : Type 0 where
@@ -61,90 +116,3 @@ pub record Sortable (n : Night) (limit : ℕ) : Type 0 where
   pub codes : List ℕ
   pub within : steps ≤ limit
   pub sorts : Sorts (record { night = n; steps = steps; codes = codes })
-
--- A call asks one thing after the other, each with the number by which it refuses.
-pub record Reason : Type 1 where
-  pub number : ℕ
-  pub asked : Type 0
-
-abbrev pub AllHold : List Reason → Type 0
-AllHold [] = Unit
-AllHold (r ∷ reasons) = r .asked × AllHold reasons
-
--- the first thing that does not hold has number k
-abbrev pub FirstFails : ℕ → List Reason → Type 0
-FirstFails k [] = ⊥
-FirstFails k (r ∷ reasons) = ((r .asked → ⊥) × (r .number ≡ k)) ⊎ (r .asked × FirstFails k reasons)
-
-abbrev pub must : ℕ → Type 0 → Reason
-must number asked = record { number = number; asked = asked }
-
-abbrev pub rangeReasons : Limits → ℕ → ℕ → ℕ → ℕ → ℕ → List Reason
-rangeReasons L n m W C h =
-    must 1 (Within 1 (L .cars) n) ∷
-    must 1 (Within 1 (L .trains) m) ∷
-    must 1 (Within 1 (L .tracks) W) ∷
-    must 1 (Within 1 (L .room) C) ∷
-    must 1 (Within 0 (L .steps) h) ∷
-    []
-
-abbrev pub countReasons : Limits → Night → ℕ → List Reason
-countReasons L n h = rangeReasons L (length (n .inbound)) (length (n .lengths)) (n .tracks) (n .room) h
-
-abbrev pub nightReasons : Night → List Reason
-nightReasons n = must 2 (NoneEmpty (n .lengths)) ∷ must 2 (sum (n .lengths) ≡ length (n .inbound)) ∷ must 3 (EachOnce (n .inbound)) ∷ []
-
-abbrev pub deriveReasons : Limits → Night → ℕ → ℕ → List Reason
-deriveReasons L n limit size =
-    countReasons L n limit ++
-    (nightReasons n ++
-    (must 4 (length (n .inbound) ≤ size) ∷
-    must 5 (Sortable n limit) ∷
-    must 6 (HasRoom (derivedPlan n)) ∷
-    []))
-
-abbrev pub checkReasons : Limits → Plan → List Reason
-checkReasons L p =
-    countReasons L (p .night) (p .steps) ++
-    (nightReasons (p .night) ++
-    (must 4 (length (p .codes) ≡ length (p .night .inbound)) ∷
-    must 7 (CodesBelow (p .steps) (p .codes)) ∷
-    must 8 (NeverEarly p) ∷
-    must 6 (HasRoom p) ∷
-    must 9 (BuildsTrains p) ∷
-    []))
-
-abbrev pub replayReasons : Limits → Plan → ℕ → ℕ → ℕ → List Reason
-replayReasons L p stage trackSize placeSize =
-    countReasons L (p .night) (p .steps) ++
-    (must 1 (Within 0 (p .steps) stage) ∷
-    (nightReasons (p .night) ++
-    (must 4 (length (p .codes) ≡ length (p .night .inbound)) ∷
-    must 4 (length (p .night .inbound) ≤ trackSize) ∷
-    must 4 (length (p .night .inbound) ≤ placeSize) ∷
-    must 7 (CodesBelow (p .steps) (p .codes)) ∷
-    must 8 (NeverEarly p) ∷
-    must 6 (HasRoom p) ∷
-    [])))
-
-abbrev pub writerReasons : Limits → Plan → ℕ → List Reason
-writerReasons L p size =
-    countReasons L (p .night) (p .steps) ++
-    (nightReasons (p .night) ++
-    (must 4 (length (p .codes) ≡ length (p .night .inbound)) ∷
-    must 7 (CodesBelow (p .steps) (p .codes)) ∷
-    must 4 (length (card p) ≤ size) ∷
-    []))
-
-abbrev pub readerReasons : Limits → List ℕ → ℕ → ℕ → ℕ → List Reason
-readerReasons L bytes lengthsSize inboundSize codesSize =
-    must 10 (1 ≤ length bytes) ∷
-    must 11 (headField bytes 0 ≡ 1) ∷
-    must 10 (5 ≤ length bytes) ∷
-    (rangeReasons L (headField bytes 4) (headField bytes 5) (headField bytes 2) (headField bytes 3) (headField bytes 1) ++
-    (must 10 (rightLength bytes ≤ length bytes) ∷
-    must 4 (headField bytes 5 ≤ lengthsSize) ∷
-    must 4 (headField bytes 4 ≤ inboundSize) ∷
-    must 4 (headField bytes 4 ≤ codesSize) ∷
-    (nightReasons (cardPlan bytes .night) ++
-    (must 12 (endsRight bytes ≡ true) ∷ []))))

@@ -6,9 +6,10 @@ pub mod Codes
 pub mod Replay
 pub mod Waiting
 pub mod Derived
+pub mod Demands
 pub mod Answers
 pub mod Calls
+pub mod Bits
 pub mod Card
 pub mod Price
-pub mod Demands
 pub mod Trials

@@ -4,6 +4,7 @@ use mathlib.Core.Bool.{Bool, cond}
 use mathlib.Core.List.{List, [], _∷_}
 use lib.Dec.{leb, ltb, eqb}
 use lib.ListN.{length, getD, take}
+use Rattle.yard.specs.declared.Counts.{Counts}
 use Rattle.yard.specs.Words.{total, most, keep, place, upFrom}
 
 -- A night: the lengths of the outbound trains, the inbound order of the cars, the sorting tracks and the room on each.
@@ -25,6 +26,13 @@ nightOf lengths inbound tracks room = record { lengths = lengths; inbound = inbo
 
 abbrev pub planOf : List ℕ → List ℕ → ℕ → ℕ → ℕ → List ℕ → Plan
 planOf lengths inbound tracks room steps codes = record { night = nightOf lengths inbound tracks room; steps = steps; codes = codes }
+
+-- the same where a caller gives the counts by name
+abbrev pub nightGiven : List ℕ → List ℕ → Counts → Night
+nightGiven lengths inbound counts = nightOf lengths inbound (counts .tracks) (counts .room)
+
+abbrev pub planGiven : List ℕ → List ℕ → List ℕ → Counts → Plan
+planGiven lengths inbound codes counts = planOf lengths inbound (counts .tracks) (counts .room) (counts .steps) codes
 
 -- the cars of a list by car, 1 to n
 abbrev pub cars : ℕ → List ℕ

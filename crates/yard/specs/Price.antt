@@ -1,7 +1,7 @@
 -- The price of a night: timings in sixteenths of a second, the tests in document 01's order, then the exact double.
 use Prim.Native.Nat.{ℕ, _+_, _*_, _/_, _%_}
 use mathlib.Core.Path.{_≡_}
-use mathlib.Core.Bool.{Bool, false, cond, not, _&&_}
+use mathlib.Core.Bool.{Bool, true, false, cond, not, _&&_}
 use mathlib.Core.List.{List, [], _∷_}
 use lib.Dec.{leb, eqb}
 use lib.IntN.{pos}
@@ -10,7 +10,8 @@ use Rattle.yard.specs.declared.Answer.{Answer}
 use Rattle.yard.specs.declared.Timings.{Timings}
 use Rattle.yard.specs.declared.PriceAnswer.{PriceAnswer}
 use Rattle.yard.specs.Limits.{Limits, limits}
-use Rattle.yard.specs.Answers.{says, test, verdict, countTest}
+use Rattle.yard.specs.Demands.{Within}
+use Rattle.yard.specs.Answers.{says, verdict, Ask, answers, plain, countAsk}
 
 -- the double worth k sixteenths of a second: the one nearest to k / 16, which below 2^53 sixteenths is k / 16 itself
 unfoldable pub seconds : ℕ → Float
@@ -32,17 +33,24 @@ timing (inf negative) = false
 timing (fin negative m e) = not negative && eqb (m * up e * 16 % down e) 0 && leb (sixteenths (fin negative m e)) (4096 * 16)
 
 -- 13: a timing not allowed; A says which
-abbrev pub timingTest : ℕ → Float → Answer
-timingTest a x = test (timing x) (says 13 a 0)
+abbrev pub timingAsk : ℕ → Float → Ask
+timingAsk a x = plain 13 (timing x) a (timing x ≡ true)
 
 -- Price: steps, passes and the two timings of a night.
-abbrev pub priceTests : Limits → ℕ → ℕ → Timings → List Answer
-priceTests L steps passes t =
-    countTest 5 0 (L .steps) steps ∷
-    countTest 7 0 (L .passes) passes ∷
-    timingTest 1 (t .pull) ∷
-    timingTest 2 (t .push) ∷
+abbrev pub priceAsks : Limits → ℕ → ℕ → Timings → List Ask
+priceAsks L steps passes t =
+    countAsk 5 0 (L .steps) steps ∷
+    countAsk 7 0 (L .passes) passes ∷
+    timingAsk 1 (t .pull) ∷
+    timingAsk 2 (t .push) ∷
     []
+
+-- all that price asks
+pub record Priceable (L : Limits) (steps passes : ℕ) (t : Timings) : Type 0 where
+  pub stepsIn : Within 0 (L .steps) steps
+  pub passesIn : Within 0 (L .passes) passes
+  pub pullIn : timing (t .pull) ≡ true
+  pub pushIn : timing (t .push) ≡ true
 
 -- steps times pull plus passes times push, in sixteenths
 abbrev pub priceWorth : ℕ → ℕ → Timings → ℕ
@@ -54,7 +62,7 @@ priced r price = record { number = r .number; a = r .a; b = r .b; price = price 
 
 unfoldable pub priceAnswer : Limits → ℕ → ℕ → Timings → PriceAnswer
 priceAnswer L steps passes t =
-    let r = verdict (priceTests L steps passes t) (says 0 0 0) in
+    let r = verdict (answers (priceAsks L steps passes t)) (says 0 0 0) in
     priced r (cond (eqb (r .number) 0) (seconds (priceWorth steps passes t)) positiveZero)
 
 -- what price promises

@@ -1,10 +1,11 @@
--- The replay on physical tracks: cars roll in one by one and are counted, step k takes everything that stands on track k mod W, and what it took rolls in again.
+-- The replay on physical tracks: cars roll in one by one and are counted, step k takes everything that stands on track k mod W,
+-- and what it took rolls in again.
 use Prim.Native.Nat.{ℕ, zero, suc, _+_, _-_, _/_, _%_, _^_}
 use mathlib.Core.Bool.{Bool, cond, not, _&&_}
 use mathlib.Core.List.{List, [], _∷_, _++_}
 use lib.Dec.{leb, ltb, eqb}
 use lib.ListN.{length}
-use Rattle.yard.specs.Words.{total, most, every, listed, place, same, upFrom, first}
+use Rattle.yard.specs.Words.{tally, total, most, every, listed, place, same, upFrom, first}
 use Rattle.yard.specs.Night.{Night, Plan, cars, itemOf, trainOf, carsOf}
 
 -- What stands on each track, front first, and how many cars have rolled in so far. Sorting tracks are 0 to W - 1, the destination of train t is W + t - 1.
@@ -74,6 +75,10 @@ pullSize p k = total (λ car. 1) (pulled p k)
 
 unfoldable pub fullestPull : Plan → ℕ
 fullestPull p = most (pullSize p) (upFrom 0 (p .steps))
+
+-- the pull-outs, where a step that finds its track empty is not counted as one: the steps that pull at least one car
+unfoldable pub pullOuts : Plan → ℕ
+pullOuts p = total (λ k. tally (ltb 0 (length (pulled p k)))) (upFrom 0 (p .steps))
 
 -- step k takes this car early; takes some car early, and the lowest; the first such step, h where there is none
 unfoldable pub early : Plan → ℕ → ℕ → Bool

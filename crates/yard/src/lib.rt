@@ -1,4 +1,26 @@
-// What the yard is told: the answers of the calls, as document 01 has them. The meaning of each stands in specs/.
+// What the yard is told: the answers of the calls, as document 01 has them, and its limits. The meaning of each stands in specs/.
+
+// The most cars, trains, sorting tracks, cars on a track, steps, and passes of a priced night. They are those of `limits` (specs/Limits.antt).
+pub const CARS: usize = 512;
+
+pub const TRAINS: usize = 64;
+
+pub const TRACKS: usize = 8;
+
+pub const ROOM: usize = 512;
+
+pub const STEPS: usize = 8;
+
+pub const PASSES: usize = 4608;
+
+// The counts of a call that no list sets: the sorting tracks, the room on each, and the steps of a plan or the step limit of derive.
+// A caller gives them by name, since three numbers in a row are easily exchanged.
+#[repr(C)]
+pub struct Counts {
+    pub tracks: usize,
+    pub room: usize,
+    pub steps: usize,
+}
 
 // A number, 0 where all is done, and two details, 0 where unused.
 #[repr(C)]
@@ -35,4 +57,25 @@ pub struct PriceAnswer {
     pub a: usize,
     pub b: usize,
     pub price: f64,
+}
+
+// The widths of a card's fields in bits, by its edition; 0 where an edition has no such field. The edition itself has 4 bits, a code
+// has as many as the plan has steps, and `number` is the width of a train's length and of an inbound number.
+pub struct Layout {
+    pub steps: usize,
+    pub tracks: usize,
+    pub room: usize,
+    pub cars: usize,
+    pub trains: usize,
+    pub number: usize,
+}
+
+// The numbers at the head of a card.
+pub struct Head {
+    pub edition: usize,
+    pub steps: usize,
+    pub tracks: usize,
+    pub room: usize,
+    pub cars: usize,
+    pub trains: usize,
 }

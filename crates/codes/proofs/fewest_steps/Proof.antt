@@ -7,6 +7,7 @@ use native.Mathlib.Numerals.{add-one}
 use lib.ListN.{length}
 use borrow.Author.Tests.{lt-leb}
 use Rattle.yard.specs.Words.{first}
+use Rattle.yard.specs.Limits.{limits}
 use Rattle.yard.specs.Codes.{F, fewestSteps}
 use Rattle.yard.proofs.First.{first-goes}
 use Rattle.yard.proofs.Counting.{F-above}
@@ -19,7 +20,7 @@ abbrev Inv-loop : tie.InvT-loop
 Inv-loop tracks breaks ring₀ codes₀ steps₀ ring codes steps =
     (steps ≤ breaks)
     × (codes ≡ F tracks steps)
-    × (length ring ≡ 16)
+    × (length ring ≡ limits .tracks)
     × Ring tracks ring steps
     × (first (enough tracks breaks) (breaks - steps) steps ≡ fewestSteps tracks breaks)
 
@@ -30,7 +31,7 @@ loop-holds : tie.Need-loop-holds Inv-loop μ-loop
 unfolding fewestSteps
 loop-holds c =
     let args = c .args in
-    (omega arith, refl, refl, ring-first (args .tracks) (c .pre .0) 16 (c .pre .1), ap (λ (n : ℕ). first (enough (args .tracks) (args .breaks)) n 0) (sub-zero (args .breaks)))
+    (omega arith, refl, refl, ring-first (args .tracks) (c .pre .0 .0) (limits .tracks) (c .pre .0 .1), ap (λ (n : ℕ). first (enough (args .tracks) (args .breaks)) n 0) (sub-zero (args .breaks)))
 
 slice-aggregate-lost : tie.Need-slice-aggregate-lost Inv-loop μ-loop
 slice-aggregate-lost c = sym (c .before .before .loop .inv .2)
@@ -44,7 +45,7 @@ sub-codes : tie.Need-sub-codes Inv-loop μ-loop
 sub-codes c = omega (arith, F-next (c .before .before .before .before .before .args .tracks) (c .before .before .before .before .loop .steps), c .before .lost .ensures .0)
 
 loop-less : tie.Need-loop-less Inv-loop μ-loop
-loop-less c = omega (arith, F-above (c .before .before .before .before .before .args .tracks) (c .before .before .before .before .loop .steps) (c .before .before .before .before .before .pre .0))
+loop-less c = omega (arith, F-above (c .before .before .before .before .before .args .tracks) (c .before .before .before .before .loop .steps) (c .before .before .before .before .before .pre .0 .0))
 
 loop-again : tie.Need-loop-again Inv-loop μ-loop
 loop-again c =
@@ -53,7 +54,7 @@ loop-again c =
     let args = at-loop .before .args in
     let steps = at-loop .loop .steps in
     let held = at-loop .loop .inv in
-    let before : steps < args .breaks = omega (arith, F-above (args .tracks) steps (at-loop .before .pre .0)) in (
+    let before : steps < args .breaks = omega (arith, F-above (args .tracks) steps (at-loop .before .pre .0 .0)) in (
       omega arith,
       rw add-one (omega (arith, F-next (args .tracks) steps, called .lost .ensures .0)),
       called .lost .kept .0 ∙ held .2,

@@ -1,13 +1,15 @@
 -- The proof of `usable_codes`: the usable codes of the steps passed stand at the front, and the ring holds what the next steps lose.
 use mathlib.Core.Path.{_≡_, refl, sym, _∙_}
-use Prim.Native.Nat.{suc, _-_, _^_, _≤_}
+use Prim.Native.Nat.{suc, _+_, _-_, _^_, _≤_}
+use native.Mathlib.Nat.{two-pow-succ}
 use native.Mathlib.Omega.{arith}
 use lib.ListN.{length, length-set}
 use lib.Pow.{pow-mono, pow-pos}
 use denote.Ref.{now}
+use Rattle.yard.specs.Limits.{limits}
 use Rattle.yard.specs.Codes.{usableCodes}
 use Rattle.yard.proofs.Counting.{F-above}
-use Rattle.codes.specs.Front.{Front}
+use Rattle.scan.specs.Front.{Front}
 use Rattle.codes.specs.Ring.{Ring}
 use Rattle.codes.proofs.Steps.{F-next, F-le, ring-first}
 use Rattle.codes.proofs.Doubling.{written-none, written-all, written-number, written-small, written-next}
@@ -16,7 +18,7 @@ use Rattle.codes.proofs.usable_codes.Tie as tie
 
 abbrev Inv-loop : tie.InvT-loop
 Inv-loop tracks steps into₀ ring₀ codes₀ step₀ into ring codes step =
-    (step ≤ steps) × (length into ≡ length into₀) × (length ring ≡ 16) × Ring tracks ring step × Front (usableCodes tracks step) into₀ codes into
+    (step ≤ steps) × (length into ≡ length into₀) × (length ring ≡ limits .tracks) × Ring tracks ring step × Front (usableCodes tracks step) into₀ codes into
 
 abbrev μ-loop : tie.MeasureT-loop
 μ-loop tracks steps into₀ ring₀ codes₀ step₀ into ring codes step = steps - step
@@ -27,7 +29,7 @@ slice-write-into c = omega (arith, pow-pos (c .before .args .steps))
 loop-holds : tie.Need-loop-holds Inv-loop μ-loop
 loop-holds c =
     let s = c .before in
-    (omega arith, refl, refl, ring-first (s .args .tracks) (s .pre .0) 16 (s .pre .1), written-none (s .args .tracks) (s .pre .0) (now (s .args .into)) (omega (arith, pow-pos (s .args .steps))))
+    (omega arith, refl, refl, ring-first (s .args .tracks) (s .pre .0 .0) (limits .tracks) (s .pre .0 .1), written-none (s .args .tracks) (s .pre .0 .0) (now (s .args .into)) (omega (arith, pow-pos (s .args .steps))))
 
 slice-aggregate-lost : tie.Need-slice-aggregate-lost Inv-loop μ-loop
 slice-aggregate-lost c = sym (c .before .before .loop .inv .2)
@@ -37,13 +39,14 @@ lost-requires c κs =
     let at-loop = c .before .before in
     let s = at-loop .before .before in
     let held = at-loop .loop .inv in
-    (omega arith, omega arith, written-number (s .args .tracks) (at-loop .loop .step) (s .pre .0) (held .4), held .3)
+    (omega arith, omega arith, written-number (s .args .tracks) (at-loop .loop .step) (s .pre .0 .0) (held .4), held .3)
 
--- the bit of a step
-bit-small : (c : tie.After-power Inv-loop μ-loop) → c .power .result ≤ 2 ^ 8
+-- the bit of a step, twice, is that of the next step, and no step is above the last
+bit-small : (c : tie.After-power Inv-loop μ-loop) → c .power .result + c .power .result ≤ 2 ^ 16
 bit-small c =
-    let few : c .before .before .before .before .before .loop .step ≤ 8 = omega arith in
-    omega (arith, c .power .ensures, pow-mono few)
+    let step = c .before .before .before .before .before .loop .step in
+    let few : suc step ≤ 16 = omega arith in
+    omega (arith, c .power .ensures, two-pow-succ step, pow-mono few)
 
 cast-with-bit : tie.Need-cast-with-bit Inv-loop μ-loop
 cast-with-bit c = omega (arith, bit-small c)
@@ -55,10 +58,15 @@ with-bit-requires c κs =
     let h = at-loop .loop .step in
     let W = s .args .tracks in
     let f = at-loop .loop .inv .4 in
-    let number = written-number W h (s .pre .0) f in
+    let number = written-number W h (s .pre .0 .0) f in
     let but = c .before .before .before .lost .ensures .0 in
     let room : suc h ≤ s .args .steps = omega arith in
-    (omega (arith, bit-small (c .before)), omega (arith, number, but, F-next W h), omega (arith, number, but, F-next W h, F-le W (suc h), pow-mono room, length-set (now (s .args .into)) 0 0), written-small W h (s .pre .0) f (omega arith))
+    let bit = c .before .power .ensures in (
+      omega (arith, number, but, F-next W h),
+      omega (arith, number, but, F-next W h, F-le W (suc h), pow-mono room, length-set (now (s .args .into)) 0 0),
+      rw bit (written-small W h (s .pre .0 .0) f),
+      bit-small (c .before),
+    )
 
 loop-again : tie.Need-loop-again Inv-loop μ-loop
 loop-again c =
@@ -70,7 +78,7 @@ loop-again c =
     let held = at-loop .loop .inv in
     let bits = called .before .before .power in
     let went = called .before .before .before .before .lost in
-    (omega arith, called .with-bit .kept .1 .1 .1 .0 ∙ held .1, went .kept .0 ∙ held .2, went .ensures .1, written-next W h (s .pre .0) (held .4) (bits .ensures) (went .ensures .0) (called .with-bit .ensures))
+    (omega arith, called .with-bit .kept .1 .1 .1 .0 ∙ held .1, went .kept .0 ∙ held .2, went .ensures .1, written-next W h (s .pre .0 .0) (held .4) (bits .ensures) (went .ensures .0) (called .with-bit .ensures))
 
 same-length : tie.Need-same-length Inv-loop μ-loop
 same-length c = c .before .loop .inv .1 ∙ length-set (now (c .before .before .before .args .into)) 0 0
@@ -81,7 +89,7 @@ returns c =
     let W = s .args .tracks in
     let h = c .before .loop .step in
     let end : h ≡ s .args .steps = omega arith in
-    written-all (now (s .args .into)) (omega (arith, written-number W h (s .pre .0) (c .before .loop .inv .4), F-above W h (s .pre .0))) (rw end at (c .before .loop .inv .4))
+    written-all (now (s .args .into)) (omega (arith, written-number W h (s .pre .0 .0) (c .before .loop .inv .4), F-above W h (s .pre .0 .0))) (rw end at (c .before .loop .inv .4))
 
 pub usable-codes-spec : {M : Type 1} → statement M
 usable-codes-spec =

@@ -7,8 +7,8 @@ use native.Mathlib.Omega.{arith}
 use lib.ListN.{length, getD, take, drop, length-set, length-drop}
 use lib.Seq.{getD-drop, length-take-le, take-length}
 use denote.Ref.{now}
-use Rattle.codes.specs.Front.{Front}
-use Rattle.codes.proofs.Front.{front-whole, front-first, front-through}
+use Rattle.scan.specs.Front.{Front}
+use Rattle.scan.proofs.Front.{front-whole, front-first, front-through}
 use Rattle.codes.proofs.with_bit.Statement.{statement}
 use Rattle.codes.proofs.with_bit.Tie as tie
 
@@ -45,7 +45,7 @@ code c =
 add-into-2 : tie.Need-add-into-2 Inv-loop μ-loop
 add-into-2 c =
     let s = c .before .before .before in
-    omega (arith, code (c .before), getD-drop (s .args .but) (front s) (c .before .before .loop .k) 0, front-length s, s .pre .3 (s .args .but + c .before .before .loop .k) (omega (arith, front-length s)))
+    omega (arith, code (c .before), getD-drop (s .args .but) (front s) (c .before .before .loop .k) 0, front-length s, s .pre .2 (s .args .but + c .before .before .loop .k) (omega (arith, front-length s)))
 
 loop-again : tie.Need-loop-again Inv-loop μ-loop
 loop-again c =

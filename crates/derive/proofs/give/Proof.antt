@@ -1,15 +1,16 @@
 -- The proof of `give`: the numbers passed have become codes.
 use mathlib.Core.List.{[], append-nil, map}
 use mathlib.Core.Path.{_≡_, refl, _∙_}
-use Prim.Native.Nat.{_-_, _≤_, _<_}
+use Prim.Native.Nat.{_-_, _^_, _≤_, _<_}
 use native.Mathlib.Omega.{arith}
 use lib.Seq.{drop-length, take-length}
 use lib.ListN.{length, getD, take, length-set}
 use lib.Pow.{pow-mono}
 use denote.Ref.{now}
+use Rattle.yard.specs.Limits.{limits}
 use Rattle.yard.specs.Codes.{codeNumber}
-use Rattle.codes.proofs.Front.{front-none, front-through}
-use Rattle.codes.specs.Front.{Front}
+use Rattle.scan.proofs.Front.{front-none, front-through}
+use Rattle.scan.specs.Front.{Front}
 use Rattle.derive.proofs.Coded.{number-fits, number-code}
 use Rattle.derive.proofs.give.Statement.{statement}
 use Rattle.derive.proofs.give.Tie as tie
@@ -22,7 +23,7 @@ abbrev μ-loop : tie.MeasureT-loop
 μ-loop tracks steps numbers₀ table i₀ i-end numbers i = length numbers₀ - i
 
 usable-codes-requires : tie.Need-usable-codes-requires Inv-loop μ-loop
-usable-codes-requires c κs = (c .before .before .pre .0, c .before .before .pre .1, c .before .before .pre .2, pow-mono (c .before .before .pre .2))
+usable-codes-requires c κs = (c .before .before .pre .0, c .before .before .pre .1, pow-mono (c .before .before .pre .1))
 
 loop-holds : tie.Need-loop-holds Inv-loop μ-loop
 loop-holds c = (omega arith, refl, front-none (now (c .before .before .before .before .args .numbers)))
@@ -31,11 +32,11 @@ abbrev entry : tie.At-loop Inv-loop μ-loop → tie.Start Inv-loop μ-loop
 entry c = c .before .before .before .before .before
 
 -- the number at hand has its code in the table
-fits : (c : tie.In-loop Inv-loop μ-loop) → getD (c .before .loop .numbers) (c .before .loop .i) 0 < 256
+fits : (c : tie.In-loop Inv-loop μ-loop) → getD (c .before .loop .numbers) (c .before .loop .i) 0 < 2 ^ limits .steps
 fits c =
     let called = c .before .before .before .usable-codes in
     let args = entry (c .before) .args in
-    omega (arith, number-fits (args .tracks) (args .steps) (entry (c .before) .pre .0) (called .ensures) (entry (c .before) .pre .3) (c .loop-test .taken) (c .before .loop .inv .2), called .kept .1 .1 .0)
+    omega (arith, number-fits (args .tracks) (args .steps) (entry (c .before) .pre .0 .0) (called .ensures) (entry (c .before) .pre .2) (c .loop-test .taken) (c .before .loop .inv .2), called .kept .1 .1 .0)
 
 loop-again : tie.Need-loop-again Inv-loop μ-loop
 loop-again c =
@@ -45,7 +46,7 @@ loop-again c =
     let held = at-loop .loop .inv in
     let i = at-loop .loop .i in
     let q = getD (at-loop .loop .numbers) i 0 in
-    let code = number-code (args .tracks) (args .steps) (entry at-loop .pre .0) (called .ensures) (entry at-loop .pre .3) (c .before .loop-test .taken) (held .2) in
+    let code = number-code (args .tracks) (args .steps) (entry at-loop .pre .0 .0) (called .ensures) (entry at-loop .pre .2) (c .before .loop-test .taken) (held .2) in
     (omega arith, length-set (at-loop .loop .numbers) i (getD (called .last .1 .1 .0) q 0) ∙ held .1, rw code (front-through [] (codeNumber (args .tracks) (args .steps)) (now (args .numbers)) (omega arith) (omega arith) (held .2)))
 
 same-length : tie.Need-same-length Inv-loop μ-loop

@@ -30,7 +30,7 @@ give-requires : tie.Need-give-requires
 give-requires c κs =
     let called = c .before .before in
     let entry = called .before .before .before .before .before .before .before in
-    (entry .pre .tracks .0, omega (arith, entry .pre .tracks), omega (arith, entry .pre .steps, c .before .if1 .left), numbers-below (night entry) (entry .pre .lists) (entry .pre .tracks .0) (called .before .before .numbers .ensures) (needed called))
+    (entry .pre .tracks, omega (arith, entry .pre .steps, c .before .if1 .left), numbers-below (night entry) (entry .pre .lists) (entry .pre .tracks .0) (called .before .before .numbers .ensures) (needed called))
 
 part-settle-end : tie.Need-part-settle-end
 part-settle-end c =

@@ -3,8 +3,8 @@ use mathlib.Core.List.{List}
 use Prim.Native.Nat.{ℕ, _-_}
 use lib.ListN.{length}
 use Rattle.yard.specs.Words.{place, first}
-use Rattle.sorting.specs.Pairs.{unruledAt}
-use Rattle.plans.proofs.Closed.{front}
+use Rattle.pairs.specs.Pairs.{unruledAt}
+use Rattle.plans.proofs.Closed.{part-front}
 use mathlib.Core.Path.{ap, _∙_}
 use denote.Ref.{now}
 use borrow.Author.Needs.{needs}
@@ -37,7 +37,7 @@ returns c =
     let places = c .before .before .before .before .places2 in
     c .first-unruled .ensures ∙
     ap (λ (u : List ℕ). first (unruledAt (now (at .args .lengths)) u codes) (n - 1) 1)
-    (front (λ car. place car (now (at .args .inbound))) n (length (now (at .args .inbound))) _ (places .last .1 .0) (at .pre .0 .each) (places .ensures))
+    (part-front (λ car. place car (now (at .args .inbound))) (at .pre .0 .each) (places .ensures))
 
 pub first-pair-spec : {M : Type 1} → statement M
 first-pair-spec =

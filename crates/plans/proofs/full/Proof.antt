@@ -7,7 +7,7 @@ use native.Mathlib.Omega.{arith}
 use borrow.Author.Tests.{le-leb, lt-leb}
 use Rattle.yard.specs.declared.Answer.{Answer}
 use Rattle.yard.specs.Answers.{says, test}
-use Rattle.sorting.specs.Sums.{named, firstAbove}
+use Rattle.sorting.specs.Sums.{pullOf, firstAbove}
 use borrow.Author.Needs.{needs}
 use Rattle.plans.proofs.full.Statement.{statement}
 use Rattle.plans.proofs.full.Tie as tie
@@ -31,15 +31,15 @@ returns c =
     let above = firstAbove (args .room) codes (args .steps) in
     let step = c .before .before .before .first-above in
     c .answer .ensures ∙
-    (ap₂ (λ (k n : ℕ). says 6 k n) (step .ensures) (c .before .pull .ensures ∙ ap (λ (k : ℕ). named codes k) (step .ensures)) ∙
-    sym (ap (λ (b : Bool). test b (says 6 above (named codes above))) (lt-leb (args .steps) above (omega (arith, step .ensures)))))
+    (ap₂ (λ (k n : ℕ). says 6 k n) (step .ensures) (c .before .pull .ensures ∙ ap (λ (k : ℕ). pullOf codes k) (step .ensures)) ∙
+    sym (ap (λ (b : Bool). test b (says 6 above (pullOf codes above))) (lt-leb (args .steps) above (omega (arith, step .ensures)))))
 
 returns-2 : tie.Need-returns-2
 returns-2 c =
     let args = c .before .before .before .before .args in
     let codes = now (args .codes) in
     let above = firstAbove (args .room) codes (args .steps) in
-    c .answer2 .ensures ∙ sym (ap (λ (b : Bool). test b (says 6 above (named codes above))) (le-leb (args .steps) above (omega (arith, c .before .before .first-above .ensures))))
+    c .answer2 .ensures ∙ sym (ap (λ (b : Bool). test b (says 6 above (pullOf codes above))) (le-leb (args .steps) above (omega (arith, c .before .before .first-above .ensures))))
 
 pub full-spec : {M : Type 1} → statement M
 full-spec =

@@ -10,7 +10,7 @@ use lib.ListN.{length}
 use borrow.Author.Tests.{lt-leb, le-leb}
 use Rattle.yard.specs.declared.Answer.{Answer}
 use Rattle.yard.specs.Answers.{says, test, verdict}
-use Rattle.sorting.specs.Sums.{setBelow, mostNamed}
+use Rattle.sorting.specs.Sums.{setBelow, fullestOf}
 use Rattle.plans.specs.Closed.{firstPair}
 use borrow.Author.Needs.{needs}
 use Rattle.plans.proofs.ordered.Statement.{statement}
@@ -31,7 +31,7 @@ returns c =
     let codes = now (args .codes) in
     let j = firstPair (now (args .lengths)) (now (args .inbound)) codes in
     let found = c .before .before .first-pair .ensures in
-    let d = says 0 (length codes + setBelow (args .steps) codes) (mostNamed codes (args .steps)) in
+    let d = says 0 (length codes + setBelow (args .steps) codes) (fullestOf codes (args .steps)) in
     c .answer .ensures ∙
     (ap (λ (k : ℕ). says 9 k 0) (ap (λ (k : ℕ). k + 1) found ∙ add-one j) ∙
     sym (ap (λ (b : Bool). verdict (test b (says 9 (suc j) 0) ∷ []) d) (lt-leb (length codes) j (omega arith))))
@@ -49,7 +49,7 @@ returns-2 c =
     let codes = now (args .codes) in
     let j = firstPair (now (args .lengths)) (now (args .inbound)) codes in
     let found = c .before .before .before .first-pair .ensures in
-    let d = says 0 (length codes + setBelow (args .steps) codes) (mostNamed codes (args .steps)) in
+    let d = says 0 (length codes + setBelow (args .steps) codes) (fullestOf codes (args .steps)) in
     c .answer2 .ensures ∙
     (ap₂ (λ (a b : ℕ). says 0 a b) (c .before .passes .ensures) (at .pre .3) ∙
     sym (ap (λ (b : Bool). verdict (test b (says 9 (suc j) 0) ∷ []) d) (le-leb (length codes) j (omega arith))))

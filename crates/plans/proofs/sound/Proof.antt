@@ -6,9 +6,9 @@ use native.Mathlib.Nat.{suc-ne-zero}
 use lib.Dec.{leb}
 use Rattle.yard.specs.declared.Answer.{Answer}
 use Rattle.yard.specs.Answers.{says, codeTest}
-use Rattle.yard.proofs.Demands.{codes-passed}
+use Rattle.yard.proofs.Rights.{codes-passed}
 use Rattle.yard.proofs.Verdict.{stops, goes-on, last-is}
-use Rattle.sorting.specs.Sums.{named, firstAbove}
+use Rattle.sorting.specs.Sums.{pullOf, firstAbove}
 use Rattle.plans.specs.Closed.{waitTest, fullTest}
 use borrow.Author.Needs.{needs}
 use Rattle.plans.proofs.sound.Statement.{statement}
@@ -50,7 +50,7 @@ returns-3 c =
     let above = firstAbove (args .room) codes (args .steps) in
     goes-on (codeTest (args .steps) codes) (waitTest (args .tracks) (args .steps) codes ∷ fullTest (args .room) (args .steps) codes ∷ []) (says 0 0 0) (below .result) (below .ensures) (c .full .result) (c .before .before .before .before .if1 .left)
     (goes-on (waitTest (args .tracks) (args .steps) codes) (fullTest (args .room) (args .steps) codes ∷ []) (says 0 0 0) (kept .result) (kept .ensures) (c .full .result) (c .before .if2 .left)
-    (c .full .ensures ∙ last-is (leb (args .steps) above) (says 6 above (named codes above)) (suc-ne-zero 5)))
+    (c .full .ensures ∙ last-is (leb (args .steps) above) (says 6 above (pullOf codes above)) (suc-ne-zero 5)))
 
 pub sound-spec : {M : Type 1} → statement M
 sound-spec =

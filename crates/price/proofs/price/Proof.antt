@@ -7,8 +7,8 @@ use borrow.Author.Needs.{needs}
 use Rattle.price.specs.declared.Timing.the-variants.{Sixteenths, NotAllowed}
 use Rattle.yard.specs.Limits.{limits}
 use Rattle.yard.specs.Answers.{says}
-use Rattle.yard.specs.Price.{seconds, priced, priceWorth, timing, sixteenths}
-use Rattle.yard.proofs.Price.{AllHold, stepsOut, passesOut, pullOut, pushOut, done, told-prices, worth-small, limits-small}
+use Rattle.yard.specs.Price.{Priceable, seconds, priced, priceWorth, timing, sixteenths}
+use Rattle.yard.proofs.Price.{stepsOut, passesOut, pullOut, pushOut, refused-prices, done-prices, worth-small, limits-small}
 use Rattle.price.proofs.price.Statement.{statement}
 use Rattle.price.proofs.price.Tie as tie
 
@@ -27,7 +27,7 @@ refused-requires c κs = search needs
 returns : tie.Need-returns
 returns c =
     let a = c .before .before .args in
-    told-prices (a .steps) (a .passes) (a .timings) (c .refused .ensures) (stepsOut (c .before .if1 .taken))
+    refused-prices (a .steps) (a .passes) (a .timings) (omega arith) (c .refused .ensures) (stepsOut limits (a .steps) (a .passes) (a .timings) (c .before .if1 .taken))
 
 refused-requires-2 : tie.Need-refused-requires-2
 refused-requires-2 c κs = search needs
@@ -35,7 +35,7 @@ refused-requires-2 c κs = search needs
 returns-2 : tie.Need-returns-2
 returns-2 c =
     let a = c .before .before .before .args in
-    told-prices (a .steps) (a .passes) (a .timings) (c .refused2 .ensures) (passesOut (c .before .before .if1 .left) (c .before .if2 .taken))
+    refused-prices (a .steps) (a .passes) (a .timings) (omega arith) (c .refused2 .ensures) (passesOut limits (a .steps) (a .passes) (a .timings) (c .before .before .if1 .left) (c .before .if2 .taken))
 
 timing-of-requires : tie.Need-timing-of-requires
 timing-of-requires c κs = search needs
@@ -54,7 +54,7 @@ returns-3 c =
     let counts = c .before .before .before .before in
     let a = counts .before .before .args in
     let refusal = refusedTiming (timing (a .timings .pull)) (sixteenths (a .timings .pull)) (sym (c .before .enum-told .given .1) ∙ c .before .before .before .timing-of .ensures) in
-    told-prices (a .steps) (a .passes) (a .timings) (c .refused3 .ensures) (pullOut (counts .before .if1 .left) (counts .if2 .left) refusal)
+    refused-prices (a .steps) (a .passes) (a .timings) (omega arith) (c .refused3 .ensures) (pullOut limits (a .steps) (a .passes) (a .timings) (counts .before .if1 .left) (counts .if2 .left) refusal)
 
 timing-of-requires-2 : tie.Need-timing-of-requires-2
 timing-of-requires-2 c κs = search needs
@@ -82,7 +82,7 @@ returns-4 c =
     let counts = bound .before .before .before in
     let a = start bound .args in
     let refusal = refusedTiming (timing (a .timings .push)) (sixteenths (a .timings .push)) (sym (c .before .enum-told2 .given .1) ∙ c .before .before .before .timing-of2 .ensures) in
-    told-prices (a .steps) (a .passes) (a .timings) (c .refused4 .ensures) (pushOut (counts .before .if1 .left) (counts .if2 .left) (pullAllowed bound .0) refusal)
+    refused-prices (a .steps) (a .passes) (a .timings) (omega arith) (c .refused4 .ensures) (pushOut limits (a .steps) (a .passes) (a .timings) (counts .before .if1 .left) (counts .if2 .left) (pullAllowed bound .0) refusal)
 
 -- where the push's are bound too: the same of the push, so all tests hold and the sum is the price's sixteenths
 abbrev bound : tie.After-push-worth → tie.After-pull-worth
@@ -93,10 +93,10 @@ pushAllowed c =
     let push = start (bound c) .args .timings .push in
     allowed (timing push) (c .push-worth .given .0 .0) (sixteenths push) (sym (c .push-worth .given .1) ∙ c .before .before .timing-of2 .ensures)
 
-allHold : (c : tie.After-push-worth) → AllHold limits (start (bound c) .args .steps) (start (bound c) .args .passes) (start (bound c) .args .timings)
+allHold : (c : tie.After-push-worth) → Priceable limits (start (bound c) .args .steps) (start (bound c) .args .passes) (start (bound c) .args .timings)
 allHold c =
     let counts = bound c .before .before .before in
-    record { stepsIn = counts .before .if1 .left; passesIn = counts .if2 .left; pullIn = pullAllowed (bound c) .0; pushIn = pushAllowed c .0 }
+    record { stepsIn = (omega arith, counts .before .if1 .left); passesIn = (omega arith, counts .if2 .left); pullIn = pullAllowed (bound c) .0; pushIn = pushAllowed c .0 }
 
 worth-is : (c : tie.After-push-worth) → start (bound c) .args .steps * bound c .pull-worth .given .0 .0 + start (bound c) .args .passes * c .push-worth .given .0 .0 ≡ priceWorth (start (bound c) .args .steps) (start (bound c) .args .passes) (start (bound c) .args .timings)
 worth-is c = λ i. start (bound c) .args .steps * pullAllowed (bound c) .1 i + start (bound c) .args .passes * pushAllowed c .1 i
@@ -109,7 +109,7 @@ done-requires c κs =
 returns-5 : tie.Need-returns-5
 returns-5 c =
     let a = start (bound (c .before .before)) .args in
-    told-prices (a .steps) (a .passes) (a .timings) (c .done .ensures ∙ ap (λ (n : ℕ). priced (says 0 0 0) (seconds n)) (worth-is (c .before .before))) (done (allHold (c .before .before)))
+    done-prices (a .steps) (a .passes) (a .timings) (c .done .ensures ∙ ap (λ (n : ℕ). priced (says 0 0 0) (seconds n)) (worth-is (c .before .before))) (allHold (c .before .before))
 
 pub price-spec : {M : Type 1} → statement M
 price-spec =

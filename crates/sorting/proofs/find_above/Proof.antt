@@ -7,7 +7,7 @@ use native.Mathlib.Omega.{arith}
 use borrow.Author.Tests.{lt-ltb, le-ltb}
 use Rattle.yard.specs.Words.{first}
 use Rattle.yard.proofs.First.{first-hits, first-goes, first-ends}
-use Rattle.sorting.specs.Sums.{named, above, firstAbove}
+use Rattle.sorting.specs.Sums.{pullOf, above, firstAbove}
 use Rattle.sorting.proofs.find_above.Statement.{statement}
 use Rattle.sorting.proofs.find_above.Tie as tie
 
@@ -30,7 +30,7 @@ returns c =
     let at-loop = c .before .before .before in
     let args = at-loop .before .before .args in
     let step = at-loop .loop .step in
-    sym (first-hits (above (args .room) (now (args .codes))) (args .steps) step step (c .before .before .loop-test .taken) (lt-ltb (args .room) (named (now (args .codes)) step) (omega arith))) ∙ at-loop .loop .inv .1
+    sym (first-hits (above (args .room) (now (args .codes))) (args .steps) step step (c .before .before .loop-test .taken) (lt-ltb (args .room) (pullOf (now (args .codes)) step) (omega arith))) ∙ at-loop .loop .inv .1
 
 add-step : tie.Need-add-step Inv-loop μ-loop
 add-step c = omega arith
@@ -43,7 +43,7 @@ loop-again c =
     let at-loop = c .before .before .before in
     let args = at-loop .before .before .args in
     let step = at-loop .loop .step in
-    (omega arith, sym (first-goes (above (args .room) (now (args .codes))) (args .steps) step step (c .before .before .loop-test .taken) (le-ltb (args .room) (named (now (args .codes)) step) (omega arith))) ∙ at-loop .loop .inv .1)
+    (omega arith, sym (first-goes (above (args .room) (now (args .codes))) (args .steps) step step (c .before .before .loop-test .taken) (le-ltb (args .room) (pullOf (now (args .codes)) step) (omega arith))) ∙ at-loop .loop .inv .1)
 
 returns-2 : tie.Need-returns-2 Inv-loop μ-loop
 returns-2 c =

@@ -3,13 +3,13 @@ use mathlib.Core.Path.{_≡_, refl, sym, ap, _∙_}
 use Prim.Native.Nat.{ℕ, _-_, max, _≤_}
 use denote.Ref.{now}
 use native.Mathlib.Omega.{arith}
-use Rattle.sorting.specs.Sums.{named, mostNamed}
-use Rattle.sorting.proofs.Sums.{most-next}
+use Rattle.sorting.specs.Sums.{pullOf, fullestOf}
+use Rattle.scan.proofs.Running.{most-next}
 use Rattle.sorting.proofs.fullest.Statement.{statement}
 use Rattle.sorting.proofs.fullest.Tie as tie
 
 abbrev Inv-loop : tie.InvT-loop
-Inv-loop codes steps most₀ step₀ most step = (step ≤ steps) × (most ≡ mostNamed codes step)
+Inv-loop codes steps most₀ step₀ most step = (step ≤ steps) × (most ≡ fullestOf codes step)
 
 abbrev μ-loop : tie.MeasureT-loop
 μ-loop codes steps most₀ step₀ most step = steps - step
@@ -32,12 +32,12 @@ loop-less c = omega arith
 loop-again : tie.Need-loop-again Inv-loop μ-loop
 loop-again c =
     let at-loop = c .before .before .before in
-    omega (arith, most-next (named (now (at-loop .before .before .args .codes))) (at-loop .loop .step))
+    omega (arith, most-next (pullOf (now (at-loop .before .before .args .codes))) (at-loop .loop .step))
 
 returns : tie.Need-returns Inv-loop μ-loop
 returns c =
     let end : c .before .loop .step ≡ c .before .before .before .args .steps = omega arith in
-    c .before .loop .inv .1 ∙ ap (λ (h : ℕ). mostNamed (now (c .before .before .before .args .codes)) h) end
+    c .before .loop .inv .1 ∙ ap (λ (h : ℕ). fullestOf (now (c .before .before .before .args .codes)) h) end
 
 pub fullest-spec : {M : Type 1} → statement M
 fullest-spec = tie.close (tie.spec Inv-loop μ-loop loop-holds pull-requires larger-requires add-step loop-less loop-again returns)

@@ -6,7 +6,7 @@ use denote.Ref.{now}
 use native.Mathlib.Omega.{arith}
 use lib.ListN.{length, getD, drop}
 use Rattle.sorting.specs.Sums.{setBelow}
-use Rattle.sorting.proofs.Sums.{total-next, total-end}
+use Rattle.scan.proofs.Running.{total-next, total-end}
 use Rattle.sorting.proofs.passes.Statement.{statement}
 use Rattle.sorting.proofs.passes.Tie as tie
 

@@ -6,13 +6,13 @@ use native.Mathlib.Omega.{arith}
 use lib.ListN.{length, getD, drop}
 use Rattle.yard.specs.Words.{tally}
 use Rattle.yard.specs.Replay.{bit}
-use Rattle.sorting.specs.Sums.{named}
-use Rattle.sorting.proofs.Sums.{tally-most, total-next, total-end}
+use Rattle.sorting.specs.Sums.{pullOf}
+use Rattle.scan.proofs.Running.{tally-most, total-next, total-end}
 use Rattle.sorting.proofs.pull.Statement.{statement}
 use Rattle.sorting.proofs.pull.Tie as tie
 
 abbrev Inv-loop : tie.InvT-loop
-Inv-loop codes step cars₀ i₀ i-end cars i = (i ≤ length codes) × (cars ≤ i) × (cars + named (drop i codes) step ≡ named codes step)
+Inv-loop codes step cars₀ i₀ i-end cars i = (i ≤ length codes) × (cars ≤ i) × (cars + pullOf (drop i codes) step ≡ pullOf codes step)
 
 abbrev μ-loop : tie.MeasureT-loop
 μ-loop codes step cars₀ i₀ i-end cars i = length codes - i

@@ -1,0 +1,2 @@
+-- The laws on which the proofs of this crate rest.
+pub mod ByCar

@@ -1,0 +1,70 @@
+// One pass over a list of numbers: its sum, its largest item, and the first item that is 0 or too large.
+ghost use mathlib.Core.Path.{_≡_};
+ghost use Prim.Native.Nat.{max, _≤_};
+ghost use lib.Dec.{leb};
+ghost use lib.ListN.{length};
+ghost use Rattle.yard.specs.Limits.{limits};
+ghost use Rattle.yard.specs.Words.{tally, most, first};
+ghost use Rattle.yard.specs.Night.{sum, itemOf};
+ghost use Rattle.yard.specs.Answers.{emptyTrain};
+
+// The cars of all trains together.
+pub fn total(lengths: &[u16]) -> usize
+    requires { ⌜ length (now lengths) ≤ limits .trains ⌝ }
+    ensures { λ r. ⌜ r ≡ sum (now (lengths .entry)) ⌝ }
+{
+    let mut cars: usize = 0;
+    for i in 0..lengths.len() {
+        cars += lengths[i] as usize;
+    }
+    cars
+}
+
+// The first train of length 0, or one past the last where there is none.
+pub fn first_empty(lengths: &[u16]) -> usize
+    ensures { λ r. ⌜ r ≡ emptyTrain (now (lengths .entry)) ⌝ }
+{
+    for t in 0..lengths.len() {
+        if lengths[t] == 0 {
+            return t + 1;
+        }
+    }
+    lengths.len() + 1
+}
+
+// 1 for true, 0 for false.
+pub fn tally(test: bool) -> u16
+    ensures { λ r. ⌜ r ≡ tally test ⌝ }
+{
+    if test { 1 } else { 0 }
+}
+
+// The larger of two numbers.
+pub fn larger(a: u16, b: u16) -> u16
+    ensures { λ r. ⌜ r ≡ max a b ⌝ }
+{
+    if a < b { b } else { a }
+}
+
+// The largest item, 0 where there is none.
+pub fn largest(items: &[u16]) -> u16
+    ensures { λ r. ⌜ r ≡ most (λ item. item) (now (items .entry)) ⌝ }
+{
+    let mut most: u16 = 0;
+    for i in 0..items.len() {
+        most = larger(most, items[i]);
+    }
+    most
+}
+
+// The place of the first item that is not below a bound, from 1, or one past the last where there is none.
+pub fn first_over(items: &[u16], bound: usize) -> usize
+    ensures { λ r. ⌜ r ≡ first (λ k. leb bound (itemOf (now (items .entry)) k)) (length (now (items .entry))) 1 ⌝ }
+{
+    for i in 0..items.len() {
+        if bound <= items[i] as usize {
+            return i + 1;
+        }
+    }
+    items.len() + 1
+}

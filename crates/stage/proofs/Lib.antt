@@ -1,0 +1,3 @@
+-- The laws on which the proofs of this crate rest.
+pub mod Standing
+pub mod ByTrain

@@ -1,0 +1,57 @@
+"""The numbers of document 01 and their words, made from words/refusals.tsv by words/make.py."""
+
+from __future__ import annotations
+
+UNKNOWN = "a number the paper does not have"
+
+NAMES: dict[int, str] = {
+    0: "DONE",
+    1: "COUNT_OUT_OF_RANGE",
+    2: "LENGTHS_WRONG",
+    3: "INBOUND_WRONG",
+    4: "LIST_OR_BUFFER_WRONG",
+    5: "LIMIT_TOO_LOW",
+    6: "TRACK_OVERFILLED",
+    7: "CODE_TOO_LARGE",
+    8: "CAR_PULLED_EARLY",
+    9: "TRAINS_OUT_OF_ORDER",
+    10: "CARD_TOO_SHORT",
+    11: "CARD_EDITION",
+    12: "CARD_END_WRONG",
+    13: "TIMING_NOT_ALLOWED",
+}
+
+WORDS: dict[int, str] = {
+    0: "done",
+    1: "a count out of its range",
+    2: "a train of length 0, or lengths not adding up to n",
+    3: "inbound list not each car once",
+    4: "a list whose length isn't its count, or a buffer to be written too short",
+    5: "fewest steps above the limit",
+    6: "a track overfilled",
+    7: "a code not below 2^h",
+    8: "a car pulled early",
+    9: "trains out of order",
+    10: "card too short",
+    11: "card edition not 1",
+    12: "non-zero padding, or bytes after the end",
+    13: "a timing not allowed",
+}
+
+# The words of the details by A, None for every other A; {a} and {b} are the details themselves.
+DETAILS: dict[int, dict[int | None, str]] = {
+    0: {None: "A {a}, B {b}"},
+    1: {1: "cars", 2: "trains", 3: "tracks", 4: "room", 5: "steps or limit", 6: "stage above h", 7: "passes", None: "A {a}, B {b}"},
+    2: {0: "the sum", None: "train {a}"},
+    3: {None: "place {a}"},
+    4: {1: "lengths", 2: "inbound", 3: "codes", 4: "tracks", 5: "places", 6: "card", None: "A {a}, B {b}"},
+    5: {None: "fewest steps {a}"},
+    6: {None: "step {a}, {b} cars"},
+    7: {None: "car {a}"},
+    8: {None: "car {a}, step {b}"},
+    9: {None: "car {a}"},
+    10: {None: "{a} bytes needed, as far as known"},
+    11: {None: "edition {a}"},
+    12: {None: "right length {a}"},
+    13: {1: "pull", 2: "push", None: "A {a}, B {b}"},
+}

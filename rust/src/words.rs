@@ -1,0 +1,111 @@
+//! The numbers of document 01 and their words, made from words/refusals.tsv by words/make.py.
+
+/// Why a call refused, by document 01's numbers.
+///
+/// Later papers add numbers, so a `match` needs an arm for all others.
+#[non_exhaustive]
+#[derive(Clone, Copy, Debug, PartialEq, Eq, Hash)]
+pub enum Kind {
+    /// 1: a count out of its range. A: 1 cars, 2 trains, 3 tracks, 4 room, 5 steps or limit, 6 stage above h, 7 passes.
+    CountOutOfRange,
+    /// 2: a train of length 0, or lengths not adding up to n. A: first such train, or 0 for the sum.
+    LengthsWrong,
+    /// 3: inbound list not each car once. A: first place with a number out of range or met before.
+    InboundWrong,
+    /// 4: a list whose length isn't its count, or a buffer to be written too short. A: 1 lengths, 2 inbound, 3 codes, 4 tracks, 5 places, 6 card.
+    ListOrBufferWrong,
+    /// 5: fewest steps above the limit. A: fewest steps (may exceed 8).
+    LimitTooLow,
+    /// 6: a track overfilled. A: first such step, B: its cars.
+    TrackOverfilled,
+    /// 7: a code not below 2^h. A: first such car.
+    CodeTooLarge,
+    /// 8: a car pulled early. A: lowest car of the first such step, B: that step.
+    CarPulledEarly,
+    /// 9: trains out of order. A: lowest j+1 whose pair breaks the rule.
+    TrainsOutOfOrder,
+    /// 10: card too short. A: bytes needed, as far as known.
+    CardTooShort,
+    /// 11: card edition not 1. A: edition.
+    CardEdition,
+    /// 12: non-zero padding, or bytes after the end. A: the card's right length.
+    CardEndWrong,
+    /// 13: a timing not allowed. A: 1 pull, 2 push.
+    TimingNotAllowed,
+    /// Any other: a number the paper does not have.
+    Unknown,
+}
+
+/// The kind of a number.
+pub(crate) fn kind(number: usize) -> Kind {
+    match number {
+        1 => Kind::CountOutOfRange,
+        2 => Kind::LengthsWrong,
+        3 => Kind::InboundWrong,
+        4 => Kind::ListOrBufferWrong,
+        5 => Kind::LimitTooLow,
+        6 => Kind::TrackOverfilled,
+        7 => Kind::CodeTooLarge,
+        8 => Kind::CarPulledEarly,
+        9 => Kind::TrainsOutOfOrder,
+        10 => Kind::CardTooShort,
+        11 => Kind::CardEdition,
+        12 => Kind::CardEndWrong,
+        13 => Kind::TimingNotAllowed,
+        _ => Kind::Unknown,
+    }
+}
+
+/// The words of a number.
+pub(crate) fn words(number: usize) -> &'static str {
+    match number {
+        0 => "done",
+        1 => "a count out of its range",
+        2 => "a train of length 0, or lengths not adding up to n",
+        3 => "inbound list not each car once",
+        4 => "a list whose length isn't its count, or a buffer to be written too short",
+        5 => "fewest steps above the limit",
+        6 => "a track overfilled",
+        7 => "a code not below 2^h",
+        8 => "a car pulled early",
+        9 => "trains out of order",
+        10 => "card too short",
+        11 => "card edition not 1",
+        12 => "non-zero padding, or bytes after the end",
+        13 => "a timing not allowed",
+        _ => "a number the paper does not have",
+    }
+}
+
+/// The words of the details.
+pub(crate) fn details(number: usize, a: usize, b: usize) -> String {
+    match (number, a) {
+        (1, 1) => "cars".to_string(),
+        (1, 2) => "trains".to_string(),
+        (1, 3) => "tracks".to_string(),
+        (1, 4) => "room".to_string(),
+        (1, 5) => "steps or limit".to_string(),
+        (1, 6) => "stage above h".to_string(),
+        (1, 7) => "passes".to_string(),
+        (2, 0) => "the sum".to_string(),
+        (2, _) => format!("train {a}"),
+        (3, _) => format!("place {a}"),
+        (4, 1) => "lengths".to_string(),
+        (4, 2) => "inbound".to_string(),
+        (4, 3) => "codes".to_string(),
+        (4, 4) => "tracks".to_string(),
+        (4, 5) => "places".to_string(),
+        (4, 6) => "card".to_string(),
+        (5, _) => format!("fewest steps {a}"),
+        (6, _) => format!("step {a}, {b} cars"),
+        (7, _) => format!("car {a}"),
+        (8, _) => format!("car {a}, step {b}"),
+        (9, _) => format!("car {a}"),
+        (10, _) => format!("{a} bytes needed, as far as known"),
+        (11, _) => format!("edition {a}"),
+        (12, _) => format!("right length {a}"),
+        (13, 1) => "pull".to_string(),
+        (13, 2) => "push".to_string(),
+        _ => format!("A {a}, B {b}"),
+    }
+}

@@ -1,0 +1,239 @@
+//! Inputs at the ends of what the types hold: none of them stops a call.
+
+use altairpeg::{check, derive, price, read_card, replay, write_card};
+use altairpeg::{Kind, Night, Plan, Refusal, Timings, CARS, TRAINS};
+
+const NIGHT: Night = Night {
+    lengths: &[2],
+    inbound: &[2, 1],
+    tracks: 2,
+    room: 2,
+};
+const PLAN: Plan = Plan {
+    night: NIGHT,
+    steps: 1,
+    codes: &[0, 1],
+};
+const TIMINGS: Timings = Timings {
+    pull: 0.0,
+    push: 4096.0,
+};
+
+fn refused(number: usize, a: usize) -> Refusal {
+    Refusal { number, a, b: 0 }
+}
+
+/// What every call that takes a plan says of it, which must be the same.
+fn all_refuse(plan: Plan, number: usize, a: usize) {
+    assert_eq!(check(plan), Err(refused(number, a)));
+    assert_eq!(replay(plan, 0), Err(refused(number, a)));
+    assert_eq!(write_card(plan), Err(refused(number, a)));
+}
+
+/// What the calls that take a night, alone or in a plan, say of it.
+fn all_refuse_night(night: Night, number: usize, a: usize) {
+    assert_eq!(derive(night, 8), Err(refused(number, a)));
+    all_refuse(Plan { night, ..PLAN }, number, a);
+}
+
+#[test]
+fn counts_of_every_size() {
+    for count in [0, 9, 513, 1 << 16, (1 << 32) + 2, usize::MAX] {
+        all_refuse_night(
+            Night {
+                tracks: count,
+                ..NIGHT
+            },
+            1,
+            3,
+        );
+    }
+    for count in [0, 513, 1 << 16, (1 << 32) + 2, usize::MAX] {
+        all_refuse_night(
+            Night {
+                room: count,
+                ..NIGHT
+            },
+            1,
+            4,
+        );
+    }
+    for count in [9, 513, 1 << 16, (1 << 32) + 1, usize::MAX] {
+        all_refuse(
+            Plan {
+                steps: count,
+                ..PLAN
+            },
+            1,
+            5,
+        );
+        assert_eq!(derive(NIGHT, count), Err(refused(1, 5)));
+        assert_eq!(replay(PLAN, count), Err(refused(1, 6)));
+        assert_eq!(price(count, 0, TIMINGS), Err(refused(1, 5)));
+    }
+    for count in [4609, 1 << 16, (1 << 32) + 1, usize::MAX] {
+        assert_eq!(price(0, count, TIMINGS), Err(refused(1, 7)));
+    }
+}
+
+#[test]
+fn empty_lists() {
+    all_refuse_night(
+        Night {
+            inbound: &[],
+            ..NIGHT
+        },
+        1,
+        1,
+    );
+    all_refuse_night(
+        Night {
+            lengths: &[],
+            ..NIGHT
+        },
+        1,
+        2,
+    );
+    all_refuse(Plan { codes: &[], ..PLAN }, 4, 3);
+    assert_eq!(read_card(&[]), Err(refused(10, 1)));
+}
+
+#[test]
+fn lists_that_are_too_long() {
+    let cars: Vec<u16> = (1..=u16::MAX).collect();
+    let ones = vec![1; usize::from(u16::MAX)];
+    for length in [CARS + 1, cars.len()] {
+        all_refuse_night(
+            Night {
+                inbound: &cars[..length],
+                ..NIGHT
+            },
+            1,
+            1,
+        );
+    }
+    for length in [TRAINS + 1, ones.len()] {
+        all_refuse_night(
+            Night {
+                lengths: &ones[..length],
+                ..NIGHT
+            },
+            1,
+            2,
+        );
+    }
+    all_refuse(
+        Plan {
+            codes: &ones,
+            ..PLAN
+        },
+        4,
+        3,
+    );
+    let mut card = write_card(PLAN).unwrap();
+    let length = card.len();
+    card.resize(1 << 20, 0);
+    assert_eq!(read_card(&card), Err(refused(12, length)));
+}
+
+#[test]
+fn the_largest_night() {
+    let cars: Vec<u16> = (1..=CARS as u16).collect();
+    let lengths = [8; TRAINS];
+    let night = Night {
+        lengths: &lengths,
+        inbound: &cars,
+        tracks: 8,
+        room: 512,
+    };
+    let derived = derive(night, 0).unwrap();
+    assert_eq!(
+        (derived.steps, derived.passes, derived.codes.len()),
+        (0, CARS, CARS)
+    );
+    let card = write_card(derived.plan(night)).unwrap();
+    assert_eq!(read_card(&card).unwrap().plan(), derived.plan(night));
+}
+
+#[test]
+fn items_of_every_size() {
+    all_refuse_night(
+        Night {
+            inbound: &[1, u16::MAX],
+            ..NIGHT
+        },
+        3,
+        2,
+    );
+    all_refuse_night(
+        Night {
+            inbound: &[0, 1],
+            ..NIGHT
+        },
+        3,
+        1,
+    );
+    all_refuse_night(
+        Night {
+            lengths: &[u16::MAX],
+            ..NIGHT
+        },
+        2,
+        0,
+    );
+    all_refuse_night(
+        Night {
+            lengths: &[2, 0],
+            ..NIGHT
+        },
+        2,
+        2,
+    );
+    all_refuse(
+        Plan {
+            codes: &[0, u16::MAX],
+            ..PLAN
+        },
+        7,
+        2,
+    );
+}
+
+#[test]
+fn timings_that_are_none() {
+    for pull in [f64::NAN, f64::INFINITY, -0.0, -1.0, 4096.5, 0.03] {
+        assert_eq!(
+            price(1, 1, Timings { pull, ..TIMINGS }),
+            Err(refused(13, 1))
+        );
+        assert_eq!(
+            price(
+                1,
+                1,
+                Timings {
+                    push: pull,
+                    ..TIMINGS
+                }
+            ),
+            Err(refused(13, 2))
+        );
+    }
+    assert_eq!(price(8, 4608, TIMINGS), Ok(4608.0 * 4096.0));
+}
+
+#[test]
+fn a_number_and_a_detail_that_the_paper_does_not_have() {
+    let later = Refusal {
+        number: usize::MAX,
+        a: 1,
+        b: 2,
+    };
+    assert_eq!(later.kind(), Kind::Unknown);
+    assert_eq!(later.words(), "a number the paper does not have");
+    assert_eq!(later.details(), "A 1, B 2");
+    assert_eq!(refused(1, usize::MAX).kind(), Kind::CountOutOfRange);
+    assert_eq!(
+        refused(13, 3).to_string(),
+        "refused 13 3 0: a timing not allowed (A 3, B 0)"
+    );
+}

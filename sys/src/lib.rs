@@ -1,0 +1,235 @@
+//! The C interface of Altairpeg: its structs, its exports, and a safe call for each of them.
+//!
+//! `include/altairpeg.h` says what each call tests, writes and answers. The build script finds the
+//! archive: the one that `ALTAIRPEG_ARCHIVE` names, or that of the repository.
+
+#![warn(missing_docs)]
+
+/// The most cars of a night.
+pub const CARS: usize = 512;
+/// The most trains of a night.
+pub const TRAINS: usize = 64;
+/// The bytes of the longest card.
+pub const CARD_BYTES: usize = 1237;
+
+/// A night: the lengths of the outbound trains, the inbound order of the cars, the sorting tracks
+/// and the room on each.
+#[derive(Clone, Copy, Debug, PartialEq, Eq)]
+pub struct Night<'a> {
+    /// The cars of each train; the list sets how many trains there are.
+    pub lengths: &'a [u16],
+    /// The cars, from 1, in the order in which they come in; the list sets how many there are.
+    pub inbound: &'a [u16],
+    /// The sorting tracks, 1 to 8.
+    pub tracks: usize,
+    /// The cars for which a sorting track has room, 1 to 512.
+    pub room: usize,
+}
+
+/// A plan: a night, its steps, and one code for each car, in car order.
+#[derive(Clone, Copy, Debug, PartialEq, Eq)]
+pub struct Plan<'a> {
+    /// The night that is sorted.
+    pub night: Night<'a>,
+    /// The steps, 0 to 8.
+    pub steps: usize,
+    /// The codes: bit k set means that the car is pulled in step k.
+    pub codes: &'a [u16],
+}
+
+/// A number and its two details.
+#[repr(C)]
+#[derive(Clone, Copy, Debug, PartialEq, Eq)]
+pub struct Answer {
+    /// The number, 0 where all is done.
+    pub number: usize,
+    /// Detail A, 0 where unused.
+    pub a: usize,
+    /// Detail B, 0 where unused.
+    pub b: usize,
+}
+
+/// What the card reader tells: an answer, and counts that are all 0 where it refuses.
+#[repr(C)]
+#[derive(Clone, Copy, Debug, PartialEq, Eq)]
+pub struct CardAnswer {
+    /// The number and its details.
+    pub answer: Answer,
+    /// The card's steps.
+    pub steps: usize,
+    /// The card's tracks.
+    pub tracks: usize,
+    /// The card's room.
+    pub room: usize,
+    /// The card's cars.
+    pub cars: usize,
+    /// The card's trains.
+    pub trains: usize,
+}
+
+/// Seconds for a pull-out, and seconds to push one car: each 0 to 4096 and a multiple of 1/16.
+#[repr(C)]
+#[derive(Clone, Copy, Debug, PartialEq)]
+pub struct Timings {
+    /// Seconds for a pull-out.
+    pub pull: f64,
+    /// Seconds to push one car.
+    pub push: f64,
+}
+
+/// What the price tells: an answer, and a price that is positive zero where it refuses.
+#[repr(C)]
+#[derive(Clone, Copy, Debug, PartialEq)]
+pub struct PriceAnswer {
+    /// The number and its details.
+    pub answer: Answer,
+    /// The price in seconds.
+    pub price: f64,
+}
+
+/// The exports as the archive has them; the build script asks the archive for each name found here.
+mod raw {
+    use super::{Answer, CardAnswer, PriceAnswer, Timings};
+
+    #[link(name = "altairpeg", kind = "static")]
+    extern "C" {
+        pub fn altairpeg_derive(
+            lengths: *const u16,
+            lengths_len: usize,
+            inbound: *const u16,
+            inbound_len: usize,
+            tracks: usize,
+            room: usize,
+            limit: usize,
+            codes: *mut u16,
+            codes_len: usize,
+        ) -> Answer;
+        pub fn altairpeg_check(
+            lengths: *const u16,
+            lengths_len: usize,
+            inbound: *const u16,
+            inbound_len: usize,
+            codes: *const u16,
+            codes_len: usize,
+            tracks: usize,
+            room: usize,
+            steps: usize,
+        ) -> Answer;
+        pub fn altairpeg_replay(
+            lengths: *const u16,
+            lengths_len: usize,
+            inbound: *const u16,
+            inbound_len: usize,
+            codes: *const u16,
+            codes_len: usize,
+            tracks: usize,
+            room: usize,
+            steps: usize,
+            stage: usize,
+            on: *mut u16,
+            on_len: usize,
+            at: *mut u16,
+            at_len: usize,
+        ) -> Answer;
+        pub fn altairpeg_read(
+            card: *const u8,
+            card_len: usize,
+            lengths: *mut u16,
+            lengths_len: usize,
+            inbound: *mut u16,
+            inbound_len: usize,
+            codes: *mut u16,
+            codes_len: usize,
+        ) -> CardAnswer;
+        pub fn altairpeg_write(
+            lengths: *const u16,
+            lengths_len: usize,
+            inbound: *const u16,
+            inbound_len: usize,
+            codes: *const u16,
+            codes_len: usize,
+            tracks: usize,
+            room: usize,
+            steps: usize,
+            card: *mut u8,
+            card_len: usize,
+        ) -> Answer;
+        pub fn altairpeg_price(steps: usize, passes: usize, timings: Timings) -> PriceAnswer;
+        pub fn altairpeg_fewest_tracks(code: u8) -> usize;
+    }
+}
+
+/// Calls an export with the lists it reads, its counts, and the lists it writes; a list goes over as
+/// a pointer, then a length.
+macro_rules! call {
+    ($name:ident reads [$($read:expr),*] counts [$($count:expr),*] writes [$($written:expr),*]) => {
+        // SAFETY: each pointer comes from a slice and goes with its length, the slices written are
+        // lent mutably and so overlap no other, and the library keeps no pointer.
+        unsafe {
+            raw::$name(
+                $($read.as_ptr(), $read.len(),)*
+                $($count,)*
+                $($written.as_mut_ptr(), $written.len(),)*
+            )
+        }
+    };
+}
+
+/// Derives the plan of a night with the fewest steps.
+#[inline]
+pub fn derive(night: Night, limit: usize, codes: &mut [u16]) -> Answer {
+    call!(altairpeg_derive
+        reads [night.lengths, night.inbound]
+        counts [night.tracks, night.room, limit]
+        writes [codes])
+}
+
+/// Checks a plan by its replay.
+#[inline]
+pub fn check(plan: Plan) -> Answer {
+    call!(altairpeg_check
+        reads [plan.night.lengths, plan.night.inbound, plan.codes]
+        counts [plan.night.tracks, plan.night.room, plan.steps]
+        writes [])
+}
+
+/// Replays a plan to a stage: each car's track to `on`, its place there to `at`.
+#[inline]
+pub fn replay(plan: Plan, stage: usize, on: &mut [u16], at: &mut [u16]) -> Answer {
+    call!(altairpeg_replay
+        reads [plan.night.lengths, plan.night.inbound, plan.codes]
+        counts [plan.night.tracks, plan.night.room, plan.steps, stage]
+        writes [on, at])
+}
+
+/// Reads a night card.
+#[inline]
+pub fn read(
+    card: &[u8],
+    lengths: &mut [u16],
+    inbound: &mut [u16],
+    codes: &mut [u16],
+) -> CardAnswer {
+    call!(altairpeg_read reads [card] counts [] writes [lengths, inbound, codes])
+}
+
+/// Writes the night card of a plan.
+#[inline]
+pub fn write(plan: Plan, card: &mut [u8]) -> Answer {
+    call!(altairpeg_write
+        reads [plan.night.lengths, plan.night.inbound, plan.codes]
+        counts [plan.night.tracks, plan.night.room, plan.steps]
+        writes [card])
+}
+
+/// Prices a night, exactly.
+#[inline]
+pub fn price(steps: usize, passes: usize, timings: Timings) -> PriceAnswer {
+    call!(altairpeg_price reads [] counts [steps, passes, timings] writes [])
+}
+
+/// The fewest tracks on which a car with this code is never pulled early.
+#[inline]
+pub fn fewest_tracks(code: u8) -> usize {
+    call!(altairpeg_fewest_tracks reads [] counts [code] writes [])
+}

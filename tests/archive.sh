@@ -1,0 +1,57 @@
+#!/usr/bin/env bash
+# rust/ and second/ take the archive that ALTAIRPEG_ARCHIVE names, whatever its age, and say in a sentence if it won't do.
+. "$(dirname "$0")/scratch.sh"
+export CARGO_TARGET_DIR="$folder/target"
+unset ALTAIRPEG_ARCHIVE
+
+# An archive with every name of the header, in which each call refuses 99, a number that no paper has.
+stub() {
+    echo '#include <stddef.h>'
+    echo 'struct answer { size_t number, a, b; };'
+    sed -n 's/.*\baltairpeg_[a-z_]* \(altairpeg_[a-z_]*\)(.*/\1/p' include/altairpeg.h |
+        sed 's/.*/struct answer &(void) { struct answer r = {99, 1, 2}; return r; }/'
+    echo 'size_t altairpeg_fewest_tracks(void) { return 99; }'
+}
+
+says() { # TEXT WHAT: the example says it, whether it is refused or not
+    local said
+    said=$(cargo run --quiet --manifest-path rust/Cargo.toml --example one_night 2>&1) || true
+    grep -qF -- "$1" <<< "$said" || fail "$2: no '$1' in: $said"
+}
+
+refuses() { # TEXT CRATE...: no build, and the sentence
+    local text=$1 said
+    shift
+    if said=$(cargo build --quiet --manifest-path "$@" 2>&1); then fail "$ALTAIRPEG_ARCHIVE was taken"; fi
+    grep -qF -- "$ALTAIRPEG_ARCHIVE $text: run \`rt staticlib altairpeg\`" <<< "$said" || fail "no '$text' in: $said"
+}
+
+real=$PWD/target/staticlib/libaltairpeg.a
+says "2 steps, 11 passes" "the repository's archive"
+
+stub > "$folder/stub.c"
+gcc -c -o "$folder/stub.o" "$folder/stub.c"
+export ALTAIRPEG_ARCHIVE="$folder/other archive.a"
+ar rc "$ALTAIRPEG_ARCHIVE" "$folder/stub.o"
+touch -d 2001-01-01 "$ALTAIRPEG_ARCHIVE"
+says "refused 99 1 2: a number the paper does not have (A 1, B 2)" "an old archive of another name"
+cp "$real" "$ALTAIRPEG_ARCHIVE"
+touch -d 2001-01-01 "$ALTAIRPEG_ARCHIVE"
+says "2 steps, 11 passes" "another put in its place, as old"
+
+second=(second/Cargo.toml --features library)
+rm "$ALTAIRPEG_ARCHIVE"
+refuses "cannot be read (No such file or directory (os error 2))" rust/Cargo.toml
+refuses "cannot be read (No such file or directory (os error 2))" "${second[@]}"
+echo "no archive" > "$ALTAIRPEG_ARCHIVE"
+refuses "is no archive" "${second[@]}"
+head -c 9000 "$real" > "$ALTAIRPEG_ARCHIVE"
+refuses "is cut off or damaged" rust/Cargo.toml
+rm "$ALTAIRPEG_ARCHIVE"
+gcc -Daltairpeg_price=another -c -o "$folder/stub.o" "$folder/stub.c"
+ar rc "$ALTAIRPEG_ARCHIVE" "$folder/stub.o"
+refuses "has no altairpeg_price, so it is no archive of this edition" rust/Cargo.toml
+ALTAIRPEG_ARCHIVE=target/staticlib/libaltairpeg.a
+refuses "is not a whole path, from / on" rust/Cargo.toml
+ALTAIRPEG_ARCHIVE=
+says "2 steps, 11 passes" "an empty name"
