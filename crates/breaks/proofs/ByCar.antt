@@ -1,10 +1,8 @@
 -- Laws of the lists in car order: the place of each car, and the breaks before it, train by train.
 use mathlib.Core.Path.{_≡_, refl, sym, ap, ap₂, _∙_}
 use mathlib.Core.Logic.{⊎-elim}
-use mathlib.Core.Bool.{Bool, true, false}
 use mathlib.Core.List.{List, map}
-use Prim.Native.Nat.{ℕ, zero, suc, _+_, _-_, max, _≤_, _<_}
-use native.Mathlib.Nat.{add-zero, add-suc, suc-add}
+use Prim.Native.Nat.{ℕ, suc, _+_, _-_, max, _≤_, _<_}
 use native.Mathlib.Numerals.{add-one, one-add}
 use native.Mathlib.Omega.{arith}
 use lib.Dec.{ltb}
@@ -36,7 +34,7 @@ Places inbound places = (j : ℕ) → Within 1 (length inbound) j → itemOf pla
 
 pub places-by-car : (inbound : List ℕ) {before places : List ℕ} →
     Front (map (λ car. place car inbound) (cars (length inbound))) before (length inbound) places → Places inbound places
-places-by-car inbound front j w = front-item (j - 1) (omega arith) front ∙ by-car (λ car. place car inbound) (length inbound) j w
+places-by-car inbound front j w = front-item front (j - 1) (omega arith) ∙ by-car (λ car. place car inbound) (length inbound) j w
 
 -- ---- one train
 
@@ -60,7 +58,8 @@ module _ (places : List ℕ) (b : ℕ) (before : List ℕ) where
   train-from t =
       record { breaks = t .breaks; fewer = t .fewer; car = t .car; stays = λ i l. t .stays i l ∙ getD-set-other before b i 0 0 (λ e. omega arith) }
 
-  pub train-next : {e r s : ℕ} {into : List ℕ} → s ≡ r + tally (turned places e) → e < length into → Train places b e before r into → Train places b (e + 1) before s (set into e s)
+  pub train-next : {e r s : ℕ} {into : List ℕ} → s ≡ r + tally (turned places e) → e < length into → Train places b e before r into
+      → Train places b (e + 1) before s (set into e s)
   train-next {e} {r} {s} {into} more m t =
       record {
         breaks = counted ∙ ap (turns places (suc b)) again;

@@ -1,5 +1,4 @@
 // The breaks of a night: how many come before each car in its train, and the most in one train.
-ghost use mathlib.Core.Path.{_≡_};
 ghost use Prim.Native.Nat.{_≤_, _<_};
 ghost use lib.ListN.{length};
 ghost use Rattle.yard.specs.Limits.{limits};

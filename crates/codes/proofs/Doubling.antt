@@ -29,7 +29,8 @@ use Rattle.codes.proofs.Gap.{usable-gap, usable-grow}
 
 upFrom-append : (c m n : ℕ) → upFrom c (m + n) ≡ upFrom c m ++ upFrom (c + m) n
 upFrom-append c zero n = ap₂ upFrom (sym (add-zero c)) (zero-add n)
-upFrom-append c (suc m) n = ap (upFrom c) (suc-add m n) ∙ ap (λ (l : List ℕ). c ∷ l) (upFrom-append (suc c) m n ∙ ap (λ (k : ℕ). upFrom (suc c) m ++ upFrom k n) (suc-add c m ∙ sym (add-suc c m)))
+upFrom-append c (suc m) n = ap (upFrom c) (suc-add m n) ∙
+    ap (λ (l : List ℕ). c ∷ l) (upFrom-append (suc c) m n ∙ ap (λ (k : ℕ). upFrom (suc c) m ++ upFrom k n) (suc-add c m ∙ sym (add-suc c m)))
 
 upFrom-shift : (c d n : ℕ) → upFrom (c + d) n ≡ map (λ x. c + x) (upFrom d n)
 upFrom-shift c d zero = refl
@@ -39,17 +40,20 @@ keep-map : (p : ℕ → Bool) (g : ℕ → ℕ) (l : List ℕ) → keep p (map g
 keep-map p g [] = refl
 keep-map p g (x ∷ l) = go (p (g x)) (keep-map p g l)
   where
-    go : (b : Bool) → keep p (map g l) ≡ map g (keep (λ y. p (g y)) l) → cond b (g x ∷ keep p (map g l)) (keep p (map g l)) ≡ map g (cond b (x ∷ keep (λ y. p (g y)) l) (keep (λ y. p (g y)) l))
+    go : (b : Bool) → keep p (map g l) ≡ map g (keep (λ y. p (g y)) l)
+        → cond b (g x ∷ keep p (map g l)) (keep p (map g l)) ≡ map g (cond b (x ∷ keep (λ y. p (g y)) l) (keep (λ y. p (g y)) l))
     go true e = ap (λ (m : List ℕ). g x ∷ m) e
     go false e = e
 
 -- a test that none of the first g numbers passes, and the others as q, leaves out what of those passes q
-keep-behind : (p q : ℕ → Bool) (g n : ℕ) → g ≤ n → ((x : ℕ) → x < g → p x ≡ false) → ((x : ℕ) → g ≤ x → x < n → p x ≡ q x) → keep p (upFrom 0 n) ≡ drop (length (keep q (upFrom 0 g))) (keep q (upFrom 0 n))
+keep-behind : (p q : ℕ → Bool) (g n : ℕ) → g ≤ n → ((x : ℕ) → x < g → p x ≡ false) → ((x : ℕ) → g ≤ x → x < n → p x ≡ q x)
+    → keep p (upFrom 0 n) ≡ drop (length (keep q (upFrom 0 g))) (keep q (upFrom 0 n))
 keep-behind p q g n l none same =
     parted p ∙
     (ap₂ (λ (a b : List ℕ). a ++ b)
     (keep-none p (upFrom 0 g) (λ x m. none x (omega (arith, upFrom-bounds x 0 g m))))
-    (keep-same p q (upFrom (0 + g) (n - g)) (λ x m. same x (omega (arith, upFrom-bounds x (0 + g) (n - g) m)) (omega (arith, upFrom-bounds x (0 + g) (n - g) m)))) ∙
+    (keep-same p q (upFrom (0 + g) (n - g))
+    (λ x m. same x (omega (arith, upFrom-bounds x (0 + g) (n - g) m)) (omega (arith, upFrom-bounds x (0 + g) (n - g) m)))) ∙
     sym (ap (drop (length (keep q (upFrom 0 g)))) (parted q) ∙ drop-append-seam (keep q (upFrom 0 g)) (keep q (upFrom (0 + g) (n - g)))))
   where
     parted : (r : ℕ → Bool) → keep r (upFrom 0 n) ≡ keep r (upFrom 0 g) ++ keep r (upFrom (0 + g) (n - g))
@@ -74,7 +78,8 @@ module _ (W h : ℕ) (pos : 0 < W) where
   unfolding top
   top-lost x far m =
       not-so (usable W (suc h) (2 ^ h + x))
-      (λ e. ⊎-elim (λ s. omega arith) (λ s. omega arith) (gaps-top W pos h x (lt-of-lt-of-le m (pow-mono (sub-le h W))) .0 (usable-gaps W (suc h) (2 ^ h + x) pos .0 e) .1))
+      (λ e. ⊎-elim (λ s. omega arith) (λ s. omega arith)
+      (gaps-top W pos h x (lt-of-lt-of-le m (pow-mono (sub-le h W))) .0 (usable-gaps W (suc h) (2 ^ h + x) pos .0 e) .1))
 
   tops : keep top (upFrom 0 (2 ^ h)) ≡ drop (lost W h) (usableCodes W h)
   unfolding usableCodes
@@ -83,7 +88,9 @@ module _ (W h : ℕ) (pos : 0 < W) where
       far : W ≤ h → keep top (upFrom 0 (2 ^ h)) ≡ drop (lost W h) (usableCodes W h)
       far l =
           let whole : h - W + W ≡ h = omega arith in
-          let first : keep (usable W h) (upFrom 0 (2 ^ (h - W))) ≡ usableCodes W (h - W) = keep-same (usable W h) (usable W (h - W)) (upFrom 0 (2 ^ (h - W))) (λ x m. ap (λ (k : ℕ). usable W k x) (sym whole) ∙ usable-grow W pos W (h - W) x (omega (arith, upFrom-bounds x 0 (2 ^ (h - W)) m))) in
+          let first : keep (usable W h) (upFrom 0 (2 ^ (h - W))) ≡ usableCodes W (h - W) =
+          keep-same (usable W h) (usable W (h - W)) (upFrom 0 (2 ^ (h - W)))
+          (λ x m. ap (λ (k : ℕ). usable W k x) (sym whole) ∙ usable-grow W pos W (h - W) x (omega (arith, upFrom-bounds x 0 (2 ^ (h - W)) m))) in
           rw (le-leb W h l)
           (keep-behind top (usable W h) (2 ^ (h - W)) (2 ^ h) (pow-mono (sub-le h W)) (λ x m. top-lost x l m) (λ x n m. top-kept x m (inr n)) ∙
           ap (λ (k : ℕ). drop k (usableCodes W h)) (ap length first ∙ F-usable W (h - W) pos))
@@ -100,7 +107,8 @@ module _ (W h : ℕ) (pos : 0 < W) where
       (ap (keep u) (upFrom-append 0 (2 ^ h) (2 ^ h)) ∙
       (keep-append u (upFrom 0 (2 ^ h)) (upFrom (0 + 2 ^ h) (2 ^ h)) ∙
       ap₂ (λ (a b : List ℕ). a ++ b)
-      (keep-same u (usable W h) (upFrom 0 (2 ^ h)) (λ x m. ap (λ (k : ℕ). usable W k x) (sym (add-one h)) ∙ usable-grow W pos 1 h x (omega (arith, upFrom-bounds x 0 (2 ^ h) m))))
+      (keep-same u (usable W h) (upFrom 0 (2 ^ h))
+      (λ x m. ap (λ (k : ℕ). usable W k x) (sym (add-one h)) ∙ usable-grow W pos 1 h x (omega (arith, upFrom-bounds x 0 (2 ^ h) m))))
       (ap (keep u) (ap (λ (k : ℕ). upFrom k (2 ^ h)) (zero-add (2 ^ h) ∙ sym (add-zero (2 ^ h))) ∙ upFrom-shift (2 ^ h) 0 (2 ^ h)) ∙
       (keep-map u (λ x. 2 ^ h + x) (upFrom 0 (2 ^ h)) ∙
       ap (map (λ x. 2 ^ h + x)) tops)))))
@@ -114,10 +122,12 @@ module _ (W h : ℕ) (pos : 0 < W) where
     unfolding codeNumber
     written-small = rw (front-items f) (λ i m. codeNumber-usable W h pos i (omega (arith, F-usable W h pos)) .1)
 
-    pub written-next : {bit but r : ℕ} {u : List ℕ} → bit ≡ 2 ^ h → but ≡ lost W h → Front (take n t ++ map (λ x. bit + x) (drop but (take n t))) t r u → Front (usableCodes W (h + 1)) s r u
+    pub written-next : {bit but r : ℕ} {u : List ℕ} → bit ≡ 2 ^ h → but ≡ lost W h
+        → Front (take n t ++ map (λ x. bit + x) (drop but (take n t))) t r u → Front (usableCodes W (h + 1)) s r u
     written-next {bit} {but} {r} {u} e l g =
         let more = map (λ x. bit + x) (drop but (take n t)) in
-        rw (usable-next, ← e, ← l) (front-over (λ items. items ++ map (λ x. bit + x) (drop but items)) (omega (arith, f .number, g .number, ap length (front-items f), length-append (take n t) more)) f g)
+        rw (usable-next, ← e, ← l) (front-over (λ items. items ++ map (λ x. bit + x) (drop but items))
+        (omega (arith, f .number, g .number, ap length (front-items f), length-append (take n t) more)) f g)
 
 -- no step yet: the code 0, and what stood in its place is nothing to the list
 pub written-none : (W : ℕ) → 0 < W → (s : List ℕ) → 0 < length s → Front (usableCodes W 0) (set s 0 0) 1 (set s 0 0)
@@ -128,4 +138,7 @@ written-none W pos (x ∷ s) m = rw (usable-gap W 0 0 pos, le-leb 1 W pos) (reco
 pub written-all : {items u : List ℕ} {r : ℕ} (s : List ℕ) → 0 < r → Front items (set s 0 0) r u → Front items s r u
 written-all [] m f = f
 written-all {r = zero} (x ∷ s) m f = absurd (omega arith)
-written-all {r = suc r} (x ∷ s) m f = record { number = f .number; listed = f .listed }
+written-all {items} {r = suc r} (x ∷ s) m f =
+    let same : drop (length items) (0 ∷ s) ≡ drop (length items) (x ∷ s) =
+    ap (λ (k : ℕ). drop k (0 ∷ s)) (sym (f .number)) ∙ ap (λ (k : ℕ). drop k (x ∷ s)) (f .number) in
+    record { number = f .number; listed = f .listed ∙ ap (λ (l : List ℕ). items ++ l) same }

@@ -72,7 +72,8 @@ pub gap-tells : (W h x : ℕ) → 0 < W → (widestGap h x ≤ W) ↔ Gaps W h x
 gap-tells W zero x pos = (λ _. record { lowest = λ l b. absurd (omega arith); neighbours = λ k l b c. absurd (omega arith) }, λ _. pos)
 gap-tells W (suc h) x pos = go (bit h x) refl (gap-tells W h x pos)
   where
-    go : (b : Bool) → bit h x ≡ b → ((widestGap h x ≤ W) ↔ Gaps W h x) → (cond b (max (widestGap h x) (suc h - height h x)) (widestGap h x) ≤ W) ↔ Gaps W (suc h) x
+    go : (b : Bool) → bit h x ≡ b → ((widestGap h x ≤ W) ↔ Gaps W h x)
+        → (cond b (max (widestGap h x) (suc h - height h x)) (widestGap h x) ≤ W) ↔ Gaps W (suc h) x
     go true e lower = (λ m. more W h x (lower .0 (omega arith)) (λ _. omega arith), λ g. omega (arith, lower .1 (fewer W h x g), last W h x g e))
     go false e lower = (λ m. more W h x (lower .0 m) (λ set. clash set e), λ g. lower .1 (fewer W h x g))
 
@@ -86,7 +87,9 @@ gap-range : (h x : ℕ) → (1 ≤ widestGap h x) × (widestGap h x ≤ max 1 h)
 gap-range zero x = omega arith
 gap-range (suc h) x = go (bit h x) (gap-range h x)
   where
-    go : (b : Bool) → (1 ≤ widestGap h x) × (widestGap h x ≤ max 1 h) → (1 ≤ cond b (max (widestGap h x) (suc h - height h x)) (widestGap h x)) × (cond b (max (widestGap h x) (suc h - height h x)) (widestGap h x) ≤ max 1 (suc h))
+    go : (b : Bool) → (1 ≤ widestGap h x) × (widestGap h x ≤ max 1 h)
+        → (1 ≤ cond b (max (widestGap h x) (suc h - height h x)) (widestGap h x)) × (cond b (max (widestGap h x) (suc h - height h x))
+        (widestGap h x) ≤ max 1 (suc h))
     go true r = omega arith
     go false r = omega arith
 
@@ -116,7 +119,8 @@ gap-grow : (d h x : ℕ) → x < 2 ^ h → widestGap (h + d) x ≡ widestGap h x
 gap-grow zero h x m = ap (λ (k : ℕ). widestGap k x) (add-zero h)
 gap-grow (suc d) h x m =
     ap (λ (k : ℕ). widestGap k x) (add-suc h d) ∙
-    (ap (λ (b : Bool). cond b (max (widestGap (h + d) x) (suc (h + d) - height (h + d) x)) (widestGap (h + d) x)) (bit-above (h + d) x (lt-of-lt-of-le m (pow-mono (le-add-right h d)))) ∙
+    (ap (λ (b : Bool). cond b (max (widestGap (h + d) x) (suc (h + d) - height (h + d) x)) (widestGap (h + d) x))
+    (bit-above (h + d) x (lt-of-lt-of-le m (pow-mono (le-add-right h d)))) ∙
     gap-grow d h x m)
 
 pub usable-grow : (W : ℕ) → 0 < W → (d h x : ℕ) → x < 2 ^ h → usable W (h + d) x ≡ usable W h x

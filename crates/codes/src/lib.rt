@@ -347,7 +347,8 @@ pub fn fewest_steps(tracks: usize, breaks: usize) -> usize
 // Writes the codes but the first ones once more behind them, with a bit added, and answers how many there are then.
 fn with_bit(bit: u16, but: usize, codes: usize, into: &mut [u16]) -> usize
     requires { ⌜ (but ≤ codes) × (codes + codes ≤ length (now into) + but) × Under bit (take codes (now into)) × (bit + bit ≤ 2 ^ 16) ⌝ }
-    ensures { λ r. ⌜ Front (take codes (now (into .entry)) ++ map (λ x. bit + x) (drop but (take codes (now (into .entry))))) (now (into .entry)) r (now (into .exit)) ⌝ }
+    ensures { λ r. ⌜ Front (take codes (now (into .entry)) ++ map (λ x. bit + x) (drop but (take codes (now (into .entry))))) (now (into .entry)) r
+        (now (into .exit)) ⌝ }
 {
     for k in 0..codes - but {
         into[codes + k] = bit + into[but + k];

@@ -1,7 +1,7 @@
 -- Laws of the answers: the plan's own tests worked out from its codes, and the outcome of derive made of them and of the tests before.
 use mathlib.Core.Path.{_≡_, refl, sym, ap, ap₂, _∙_}
 use mathlib.Core.Logic.{_⊎_, inl, inr}
-use mathlib.Core.Bool.{true, false}
+use mathlib.Core.Bool.{Bool, true, false}
 use mathlib.Core.List.{List, [], _∷_, _++_}
 use Prim.Native.Nat.{ℕ, _+_, _≤_, _<_}
 use native.Mathlib.Nat.{le-refl}
@@ -15,18 +15,18 @@ use Rattle.yard.specs.Night.{Night}
 use Rattle.yard.specs.Replay.{passes, pullSize, firstOverfull}
 use Rattle.yard.specs.Derived.{stepsNeeded, derivedCodes, derivedPlan}
 use Rattle.yard.specs.Answers.{says, test, verdict, written, listTest, limitTest, roomTest}
-use Rattle.yard.specs.Calls.{nightCounts, nightTests, deriveAnswer, Derives}
+use Rattle.yard.specs.Calls.{nightCounts, nightTests, deriveAnswer, DeriveGiven, Derives}
 use Rattle.yard.specs.Demands.{Listed}
 use Rattle.yard.proofs.Numbers.{le-or-lt}
 use Rattle.yard.proofs.First.{first-same}
-use Rattle.yard.proofs.Verdict.{verdict-append, verdict-nested, verdict-passes, stops-all, goes-on-all, written-refused}
-use Rattle.yard.proofs.Tests.{count-passed, list-passed}
+use Rattle.yard.proofs.Verdict.{Passed, passed-append, verdict-append, verdict-nested, verdict-passes, stops-all, goes-on-all, written-refused}
+use Rattle.yard.proofs.Tests.{counts-passed, list-passed}
 use Rattle.yard.proofs.Formed.{lists-passed}
 use Rattle.yard.proofs.DerivedPlan.{derived-length, derived-sorts}
 use Rattle.yard.proofs.PlanYard.{passes-codes, pullSize-codes}
 use Rattle.intake.proofs.Tests.{last-test}
 use Rattle.sorting.specs.Sums.{pullOf, setBelow, above, firstAbove}
-use Rattle.derive.specs.Plans.{givenTests, Given, settled, Settles, planned, Planned}
+use Rattle.derive.specs.Plans.{openTests, settled, Settles, planned, Planned}
 
 -- ---- the room, worked out from the codes
 
@@ -38,10 +38,12 @@ module _ (room steps : ℕ) (derived before : List ℕ) {r : Answer} {full : ℕ
         codes = sym (ap (λ (a : Answer). written a derived before) says-so);
       }
     where
-      refused : leb steps (firstAbove room derived steps) ≡ false → says 6 (firstAbove room derived steps) (pullOf derived (firstAbove room derived steps)) ≡ settled room steps derived
+      refused : leb steps (firstAbove room derived steps) ≡ false
+          → says 6 (firstAbove room derived steps) (pullOf derived (firstAbove room derived steps)) ≡ settled room steps derived
       refused f = rw f refl
 
-  pub settles-fits : {p : ℕ} {after : List ℕ} → r ≡ says 0 steps p → steps ≤ full → p ≡ length derived + setBelow steps derived → after ≡ derived ++ drop (length derived) before → Settles room steps derived before r after
+  pub settles-fits : {p : ℕ} {after : List ℕ} → r ≡ says 0 steps p → steps ≤ full → p ≡ length derived + setBelow steps derived
+      → after ≡ derived ++ drop (length derived) before → Settles room steps derived before r after
   settles-fits {p} {after} says-so m q copied =
       record {
         answer = says-so ∙ (ap (says 0 steps) q ∙ accepted (le-leb steps (firstAbove room derived steps) (omega arith)));
@@ -67,7 +69,8 @@ module _ (n : Night) (f : Listed (n .lengths) (n .inbound)) (pos : 0 < n .tracks
       passes-codes (derivedPlan n) f (sorts .codes) (sorts .never) (stepsNeeded n) (le-refl (stepsNeeded n)) ∙
       ap (λ (k : ℕ). k + setBelow (stepsNeeded n) (derivedCodes n)) (sym (derived-length n f pos))
 
-  settled-derived : settled (n .room) (stepsNeeded n) (derivedCodes n) ≡ verdict (roomTest (derivedPlan n) ∷ []) (says 0 (stepsNeeded n) (passes (derivedPlan n) (stepsNeeded n)))
+  settled-derived : settled (n .room) (stepsNeeded n) (derivedCodes n) ≡ verdict (roomTest (derivedPlan n) ∷ [])
+      (says 0 (stepsNeeded n) (passes (derivedPlan n) (stepsNeeded n)))
   unfolding derivedPlan
   settled-derived =
       go (length (derivedCodes n) + setBelow steps (derivedCodes n)) (le-or-lt steps full) ∙
@@ -100,46 +103,51 @@ module _ (n : Night) (f : Listed (n .lengths) (n .inbound)) (pos : 0 < n .tracks
         refused : leb (stepsNeeded n) limit ≡ false → says 5 (stepsNeeded n) 0 ≡ planned n limit
         refused e = rw e refl
 
-    pub plan-settled : {derived after : List ℕ} → derived ≡ derivedCodes n → steps ≤ limit → Settles (n .room) steps derived before r after → Planned n limit before r after
+    pub plan-settled : {derived after : List ℕ} → derived ≡ derivedCodes n → steps ≤ limit → Settles (n .room) steps derived before r after
+        → Planned n limit before r after
     plan-settled {derived} {after} e m s =
         record {
           answer = s .answer ∙ (ap₂ (settled (n .room)) needed e ∙ (settled-derived ∙ passed (le-leb (stepsNeeded n) limit (omega arith))));
           codes = s .codes ∙ ap (λ (d : List ℕ). written r d before) e;
         }
       where
-        passed : leb (stepsNeeded n) limit ≡ true → verdict (roomTest (derivedPlan n) ∷ []) (says 0 (stepsNeeded n) (passes (derivedPlan n) (stepsNeeded n))) ≡ planned n limit
+        passed : leb (stepsNeeded n) limit ≡ true
+            → verdict (roomTest (derivedPlan n) ∷ []) (says 0 (stepsNeeded n) (passes (derivedPlan n) (stepsNeeded n))) ≡ planned n limit
         passed t = rw t refl
 
 -- ---- derive
 
 -- the tests 1 to 4: a count is refused, or else the lists and the buffer answer
 module _ (n : Night) (limit size : ℕ) {counted : Answer} (is : counted ≡ verdict (nightCounts limits n limit) (says 0 0 0)) where
-  pub given-counts : (counted .number ≡ 0 → ⊥) → counted ≡ verdict (givenTests n limit size) (says 0 0 0)
-  given-counts h = stops-all (nightCounts limits n limit) (drop 5 (givenTests n limit size)) (says 0 0 0) counted is h
+  pub given-counts : (counted .number ≡ 0 → ⊥) → counted ≡ verdict (openTests n limit size) (says 0 0 0)
+  given-counts h = stops-all (nightCounts limits n limit) (drop 5 (openTests n limit size)) (says 0 0 0) counted is h
 
   pub given-lists :
       {r : Answer} → counted .number ≡ 0 → r ≡ verdict (verdict (nightTests n) (says 0 0 0) ∷ []) (listTest 3 (leb (length (n .inbound)) size)) →
-      r ≡ verdict (givenTests n limit size) (says 0 0 0)
+      r ≡ verdict (openTests n limit size) (says 0 0 0)
   given-lists {r} z e =
       let buffer : Answer = listTest 3 (leb (length (n .inbound)) size) in
-      goes-on-all (nightCounts limits n limit) (drop 5 (givenTests n limit size)) (says 0 0 0) counted is r z
+      goes-on-all (nightCounts limits n limit) (drop 5 (openTests n limit size)) (says 0 0 0) counted is r z
       (e ∙
       (verdict-nested (nightTests n) buffer ∙
       sym (verdict-append (nightTests n) (buffer ∷ []) (says 0 0 0) ∙ ap (verdict (nightTests n)) (last-test (leb (length (n .inbound)) size) 4 3 0 refl))))
 
 -- the answer of those tests: refused, it is that of derive; passed, the plan answers
-module _ (n : Night) (limit : ℕ) (before : List ℕ) {given : Answer} (is : given ≡ verdict (givenTests n limit (length before)) (says 0 0 0)) where
-  pub given-passed : given .number ≡ 0 → Given n limit (length before)
+module _ (n : Night) (limit : ℕ) (before : List ℕ) {given : Answer} (is : given ≡ verdict (openTests n limit (length before)) (says 0 0 0)) where
+  pub given-passed : given .number ≡ 0 → DeriveGiven limits n limit (length before)
   given-passed z =
-      let p = verdict-passes (givenTests n limit (length before)) (says 0 0 0) .0 (ap (λ (a : Answer). a .number) (sym is) ∙ z) .0 in
+      let counted = passed-append (nightCounts limits n limit) (drop 5 (openTests n limit (length before))) .0 all in
+      let lists = passed-append (nightTests n) (listTest 3 fits ∷ []) .0 (counted .1) in
       record {
-        cars = count-passed 1 1 (limits .cars) (length (n .inbound)) .0 (p .0) .1;
-        trains = count-passed 2 1 (limits .trains) (length (n .lengths)) .0 (p .1 .0) .1;
-        tracks = count-passed 3 1 (limits .tracks) (n .tracks) .0 (p .1 .1 .0);
-        steps = count-passed 5 0 (limits .steps) limit .0 (p .1 .1 .1 .1 .0) .1;
-        lists = lists-passed n .0 (p .1 .1 .1 .1 .1 .0, (p .1 .1 .1 .1 .1 .1 .0, (p .1 .1 .1 .1 .1 .1 .1 .0, tt)));
-        buffer = leb-true (length (n .inbound)) (length before) (list-passed 3 (leb (length (n .inbound)) (length before)) .0 (p .1 .1 .1 .1 .1 .1 .1 .1 .0));
+        given = record { counts = counts-passed limits (length (n .inbound)) (length (n .lengths)) (n .tracks) (n .room) limit .0 (counted .0); lists = lists-passed n .0 (lists .0) };
+        buffer = leb-true (length (n .inbound)) (length before) (list-passed 3 fits .0 (lists .1 .0));
       }
+    where
+      fits : Bool
+      fits = leb (length (n .inbound)) (length before)
+
+      all : Passed (openTests n limit (length before))
+      all = verdict-passes (openTests n limit (length before)) (says 0 0 0) .0 (ap (λ (a : Answer). a .number) (sym is) ∙ z) .0
 
   own-tests : List Answer
   own-tests = limitTest (stepsNeeded n) limit ∷ roomTest (derivedPlan n) ∷ []
@@ -150,11 +158,15 @@ module _ (n : Night) (limit : ℕ) (before : List ℕ) {given : Answer} (is : gi
   pub derive-refused : (given .number ≡ 0 → ⊥) → Derives n limit before given before
   unfolding deriveAnswer own-tests done
   derive-refused h =
-      let same : given ≡ deriveAnswer limits n limit (length before) = stops-all (givenTests n limit (length before)) own-tests done given is h in
-      record { answer = same; codes = sym (written-refused (deriveAnswer limits n limit (length before)) (derivedCodes n) before (λ z. h (ap (λ (a : Answer). a .number) same ∙ z))) }
+      let same : given ≡ deriveAnswer limits n limit (length before) = stops-all (openTests n limit (length before)) own-tests done given is h in
+      record {
+        answer = same;
+        codes =
+            sym (written-refused (deriveAnswer limits n limit (length before)) (derivedCodes n) before (λ z. h (ap (λ (a : Answer). a .number) same ∙ z)));
+      }
 
   pub derive-planned : {r : Answer} {after : List ℕ} → given .number ≡ 0 → Planned n limit before r after → Derives n limit before r after
   unfolding deriveAnswer own-tests done
   derive-planned {r} z p =
-      let same : r ≡ deriveAnswer limits n limit (length before) = goes-on-all (givenTests n limit (length before)) own-tests done given is r z (p .answer) in
+      let same : r ≡ deriveAnswer limits n limit (length before) = goes-on-all (openTests n limit (length before)) own-tests done given is r z (p .answer) in
       record { answer = same; codes = p .codes ∙ ap (λ (a : Answer). written a (derivedCodes n) before) same }

@@ -17,7 +17,8 @@ use Rattle.scan.proofs.Front.{front-item, front-fits, front-behind}
 use Rattle.breaks.specs.Numbers.{Numbers}
 
 -- the number at hand is as it came, so the table has its code
-module _ (W h : ℕ) (pos : 0 < W) {s table numbers done now : List ℕ} {r i : ℕ} (codes : Front (usableCodes W h) s r table) (below : Under (F W h) numbers) (l : i < length numbers) (held : Front done numbers i now) where
+module _ (W h : ℕ) (pos : 0 < W) {s table numbers done now : List ℕ} {r i : ℕ} (codes : Front (usableCodes W h) s r table)
+    (below : Under (F W h) numbers) (l : i < length numbers) (held : Front done numbers i now) where
   coded-below : getD now i 0 < r
   coded-below = omega (arith, below i l, front-behind held, codes .number, F-usable W h pos)
 
@@ -26,7 +27,7 @@ module _ (W h : ℕ) (pos : 0 < W) {s table numbers done now : List ℕ} {r i : 
 
   pub number-code : getD table (getD now i 0) 0 ≡ codeNumber W h (getD numbers i 0)
   unfolding codeNumber
-  number-code = front-item (getD now i 0) coded-below codes ∙ ap (λ (q : ℕ). getD (usableCodes W h) q 0) (front-behind held)
+  number-code = front-item codes (getD now i 0) coded-below ∙ ap (λ (q : ℕ). getD (usableCodes W h) q 0) (front-behind held)
 
 module _ (n : Night) (f : Listed (n .lengths) (n .inbound)) (pos : 0 < n .tracks) where
   pub steps-needed : {m steps : ℕ} {list : List ℕ} → Numbers (n .lengths) (n .inbound) m list → steps ≡ fewestSteps (n .tracks) m → steps ≡ stepsNeeded n

@@ -10,12 +10,13 @@ use Rattle.yard.specs.Limits.{limits}
 use Rattle.yard.specs.Night.{Night, Plan}
 use Rattle.yard.specs.Replay.{yardAt, pullSize}
 use Rattle.yard.specs.Derived.{derivedCodes, derivedPlan}
-use Rattle.yard.specs.Demands.{Least, Given, HasRoom, Sorts, Sortable, OverfullStep}
+use Rattle.yard.specs.Demands.{Least, HasRoom, Sorts, Sortable, OverfullStep}
 use Rattle.yard.specs.Answers.{says, onto, FirstFails}
 use Rattle.yard.specs.Calls.{deriveAsks, deriveAnswer, DeriveGiven, Derives}
 use Rattle.yard.proofs.Fronts.{front-taken, front-left}
 use Rattle.yard.proofs.Verdict.{written-accepted, written-refused}
-use Rattle.yard.proofs.Demands.{LeastPlan, derive-accepts-exactly, derive-refuses-exactly, derive-least, derived-least, derive-limit-exactly, derive-room-exactly}
+use Rattle.yard.proofs.Demands.{LeastPlan, derive-accepts-exactly, derive-refuses-exactly}
+use Rattle.yard.proofs.Demands.{derive-least, derive-limit-exactly, derive-room-exactly}
 
 -- the plan that the caller is told: the steps answered, and the first n items of the buffer
 abbrev pub told : Night → Answer → List ℕ → Plan
@@ -51,7 +52,8 @@ module _ (n : Night) (limit : ℕ) (before : List ℕ) (r : Answer) (after : Lis
       accepted : deriveAnswer limits n limit (length before) .number ≡ 0
       accepted = sym same-number ∙ z
 
-      told-least : LeastPlan n (derivedPlan n) × (deriveAnswer limits n limit (length before) ≡ says 0 (derivedPlan n .steps) (yardAt (derivedPlan n) (derivedPlan n .steps) .rolled))
+      told-least : LeastPlan n (derivedPlan n) × (deriveAnswer limits n limit (length before) ≡ says 0 (derivedPlan n .steps)
+          (yardAt (derivedPlan n) (derivedPlan n .steps) .rolled))
       told-least = derive-least limits n limit (length before) accepted
 
       least : LeastPlan n (derivedPlan n)
@@ -85,8 +87,17 @@ module _ (n : Night) (limit : ℕ) (before : List ℕ) (r : Answer) (after : Lis
       (λ e. exactly .0 (sym (promise .answer) ∙ e), λ h. promise .answer ∙ exactly .1 h)
 
   -- then every plan that builds the trains has at least A steps, and one has exactly A
-  pub call-limit-least : (a b : ℕ) → r ≡ says 5 a b → ((h : ℕ) (codes : List ℕ) → Sorts (record { night = n; steps = h; codes = codes }) → a ≤ h) × ((codes : List ℕ) × Sorts (record { night = n; steps = a; codes = codes }))
-  call-limit-least a b e = (least, (some .codes, subst (λ (h : ℕ). Sorts (record { night = n; steps = h; codes = some .codes })) (le-antisymm (some .within) (least (some .steps) (some .codes) (some .sorts))) (some .sorts)))
+  pub call-limit-least : (a b : ℕ) → r ≡ says 5 a b
+      → ((h : ℕ) (codes : List ℕ) → Sorts (record { night = n; steps = h; codes = codes })
+      → a ≤ h) × ((codes : List ℕ) × Sorts (record { night = n; steps = a; codes = codes }))
+  call-limit-least a b e = (
+    least,
+    (
+      some .codes,
+      subst (λ (h : ℕ). Sorts (record { night = n; steps = h; codes = some .codes }))
+          (le-antisymm (some .within) (least (some .steps) (some .codes) (some .sorts))) (some .sorts),
+    ),
+  )
     where
       told-a : Least (Sortable n) a
       told-a = call-limit a b .0 e .2
@@ -98,7 +109,8 @@ module _ (n : Night) (limit : ℕ) (before : List ℕ) (r : Answer) (after : Lis
       least h codes sorts = told-a .least h (record { steps = h; codes = codes; within = le-refl h; sorts = sorts })
 
   -- room is refused exactly if the derived plan overfills a track: A is the first step that does, B what it finds there
-  pub call-room : (a b : ℕ) → (r ≡ says 6 a b) ↔ (DeriveGiven limits n limit (length before) × Sortable n limit × Least (OverfullStep (derivedPlan n)) a × (b ≡ pullSize (derivedPlan n) a))
+  pub call-room : (a b : ℕ) → (r ≡ says 6 a b) ↔ (DeriveGiven limits n limit (length before) × Sortable n limit × Least
+      (OverfullStep (derivedPlan n)) a × (b ≡ pullSize (derivedPlan n) a))
   call-room a b =
       let exactly = derive-room-exactly limits n limit (length before) a b in
       (λ e. exactly .0 (sym (promise .answer) ∙ e), λ h. promise .answer ∙ exactly .1 h)

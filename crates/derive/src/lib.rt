@@ -2,15 +2,16 @@
 use yard::Answer;
 ghost use mathlib.Core.Path.{_≡_};
 ghost use mathlib.Core.List.{map};
-ghost use Prim.Native.Nat.{_+_, _≤_, _<_};
+ghost use Prim.Native.Nat.{_≤_, _<_};
 ghost use lib.ListN.{length};
 ghost use Rattle.yard.specs.Codes.{F, codeNumber};
 ghost use Rattle.yard.specs.Limits.{limits};
 ghost use Rattle.yard.specs.Answers.{says, verdict};
-ghost use Rattle.yard.specs.Calls.{Derives};
-ghost use Rattle.yard.specs.Demands.{Within, Listed};
+ghost use Rattle.yard.specs.Night.{nightOf};
+ghost use Rattle.yard.specs.Calls.{DeriveGiven, Derives};
+ghost use Rattle.yard.specs.Demands.{Within};
 ghost use Rattle.scan.specs.Front.{Under};
-ghost use Rattle.derive.specs.Plans.{nightOf, givenTests, Given, Settles, Planned};
+ghost use Rattle.derive.specs.Plans.{openTests, Settles, Planned};
 
 // Puts the usable code number q in the place of each number q.
 fn give(tracks: usize, steps: usize, numbers: &mut [u16])
@@ -48,7 +49,7 @@ fn plan(
     limit: usize,
     codes: &mut [u16],
 ) -> Answer
-    requires { ⌜ Given (nightOf (now lengths) (now inbound) tracks room) limit (length (now codes)) ⌝ }
+    requires { ⌜ DeriveGiven limits (nightOf (now lengths) (now inbound) tracks room) limit (length (now codes)) ⌝ }
     ensures { λ r. ⌜ Planned (nightOf (now (lengths .entry)) (now (inbound .entry)) tracks room) limit (now (codes .entry)) r (now (codes .exit)) ⌝ }
 {
     let mut derived = [0u16; yard::CARS];
@@ -71,7 +72,7 @@ fn given(
     limit: usize,
     size: usize,
 ) -> Answer
-    ensures { λ r. ⌜ r ≡ verdict (givenTests (nightOf (now (lengths .entry)) (now (inbound .entry)) tracks room) limit size) (says 0 0 0) ⌝ }
+    ensures { λ r. ⌜ r ≡ verdict (openTests (nightOf (now (lengths .entry)) (now (inbound .entry)) tracks room) limit size) (says 0 0 0) ⌝ }
 {
     let counted = intake::counts(inbound.len(), lengths.len(), tracks, room, limit);
     if counted.number != 0 {

@@ -17,4 +17,5 @@ pub none-wide : (h : ℕ) (codes : List ℕ) → most (λ code. code) codes < 2 
 none-wide h codes low = sym (ap (λ (b : Bool). test b (says 7 (wideCode h codes) 0)) (lt-ltb (length codes) (wideCode h codes) (omega (arith, past))))
   where
     past : wideCode h codes ≡ 1 + length codes
-    past = first-fails (λ car. leb (2 ^ h) (itemOf codes car)) (length codes) 1 (λ j l m. lt-leb (2 ^ h) (itemOf codes j) (omega (arith, item-most codes (j - 1) (omega arith))))
+    past = first-fails (λ car. leb (2 ^ h) (itemOf codes car)) (length codes) 1
+        (λ j l m. lt-leb (2 ^ h) (itemOf codes j) (omega (arith, item-most codes (j - 1) (omega arith))))

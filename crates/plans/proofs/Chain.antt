@@ -1,19 +1,18 @@
--- From test to test: what a call has learnt so far, and what its answer then is.
-use mathlib.Core.Path.{_≡_, refl, sym, ap, _∙_}
+-- Check, from test to test: what the call has learnt so far, and what its answer then is.
+use mathlib.Core.Path.{_≡_, sym, ap, _∙_}
 use mathlib.Core.List.{List, [], _∷_, _++_}
-use Prim.Native.Nat.{ℕ, _+_, _≤_, _<_}
-use native.Mathlib.Omega.{arith}
+use Prim.Native.Nat.{_+_}
 use lib.Dec.{eqb}
 use lib.ListN.{length}
 use borrow.Author.Tests.{eqb-true}
 use Rattle.yard.specs.declared.Answer.{Answer}
 use Rattle.yard.specs.Limits.{limits}
-use Rattle.yard.specs.Night.{nightOf, planOf}
+use Rattle.yard.specs.Night.{Plan}
 use Rattle.yard.specs.Replay.{passes, fullestPull}
+use Rattle.yard.specs.Demands.{InLimits, Listed}
 use Rattle.yard.specs.Answers.{says, verdict, listTest, codeTest, earlyTest, roomTest, orderTest}
-use Rattle.yard.specs.Calls.{countTests, nightTests, checkAnswer, Checks}
-use Rattle.yard.specs.Demands.{InLimits, Within, Listed, CodesFormed, NeverEarly}
-use Rattle.yard.proofs.Verdict.{passed-append, verdict-passes, verdict-append, stops-all, goes-on-all}
+use Rattle.yard.specs.Calls.{nightTests, nightCounts, checkAnswer, Checks}
+use Rattle.yard.proofs.Verdict.{passed-append, verdict-passes, stops-all, goes-on-all}
 use Rattle.yard.proofs.Tests.{list-passed}
 use Rattle.yard.proofs.Formed.{lists-passed}
 use Rattle.intake.proofs.Passed.{counts-within}
@@ -21,68 +20,88 @@ use Rattle.sorting.specs.Sums.{setBelow, fullestOf}
 use Rattle.plans.specs.Closed.{givenTests, soundTests, pairTest, Counted}
 use Rattle.plans.proofs.Replayed.{sound-is, order-is}
 
-module _ (lengths inbound codes : List ℕ) (W C h : ℕ) where
-  counts : List Answer
-  counts = countTests limits (length inbound) (length lengths) W C h
+-- an answer of tests alone, and what is known of it
+abbrev pub Tested : List Answer → Answer → Type 0
+Tested tests r = r ≡ verdict tests (says 0 0 0)
+
+pub same-number : {r s : Answer} → r ≡ s → r .number ≡ s .number
+same-number e = ap (λ (v : Answer). v .number) e
+
+module _ (p : Plan) where
+  abbrev pub given : List Answer
+  given = givenTests (p .night .lengths) (p .night .inbound) (p .codes)
+
+  abbrev pub sound : List Answer
+  sound = soundTests (p .night .tracks) (p .night .room) (p .steps) (p .codes)
+
+  abbrev pub Counts : Type 0
+  Counts = InLimits limits (length (p .night .inbound)) (length (p .night .lengths)) (p .night .tracks) (p .night .room) (p .steps)
 
   -- what is known once the counts have passed, and once the lists have
-  pub counted-within : (r : Answer) → r ≡ verdict (countTests limits (length inbound) (length lengths) W C h) (says 0 0 0) → r .number ≡ 0 → InLimits limits (length inbound) (length lengths) W C h
-  counted-within r is z = counts-within limits (length inbound) (length lengths) W C h .0 (sym (ap (λ (v : Answer). v .number) is) ∙ z)
+  pub counts-passed : {r : Answer} → Tested (nightCounts limits (p .night) (p .steps)) r → r .number ≡ 0 → Counts
+  counts-passed is z =
+      counts-within limits (length (p .night .inbound)) (length (p .night .lengths)) (p .night .tracks) (p .night .room) (p .steps) .0
+      (sym (same-number is) ∙ z)
 
-  pub given-listed : (r : Answer) → r ≡ verdict (givenTests lengths inbound codes) (says 0 0 0) → r .number ≡ 0 → Listed lengths inbound × (length codes ≡ length inbound)
-  given-listed r is z =
-      let all = verdict-passes (givenTests lengths inbound codes) (says 0 0 0) .0 (sym (ap (λ (v : Answer). v .number) is) ∙ z) .0 in
-      let parts = passed-append (nightTests (nightOf lengths inbound 0 0)) (listTest 3 (eqb (length codes) (length inbound)) ∷ []) .0 all in
-      (lists-passed (nightOf lengths inbound 0 0) .0 (parts .0), eqb-true (length codes) (length inbound) (list-passed 3 (eqb (length codes) (length inbound)) .0 (parts .1 .0)))
+  pub given-passed : {r : Answer} → Tested given r → r .number ≡ 0 →
+      Listed (p .night .lengths) (p .night .inbound) × (length (p .codes) ≡ length (p .night .inbound))
+  given-passed is z =
+      let same = eqb (length (p .codes)) (length (p .night .inbound)) in
+      let all = verdict-passes given (says 0 0 0) .0 (sym (same-number is) ∙ z) .0 in
+      let parts = passed-append (nightTests (p .night)) (listTest 3 same ∷ []) .0 all in
+      (lists-passed (p .night) .0 (parts .0), eqb-true (length (p .codes)) (length (p .night .inbound)) (list-passed 3 same .0 (parts .1 .0)))
 
-  pub counted : InLimits limits (length inbound) (length lengths) W C h → length codes ≡ length inbound → Counted lengths inbound codes
+  pub counted : Counts → length (p .codes) ≡ length (p .night .inbound) → Counted (p .night .lengths) (p .night .inbound) (p .codes)
   counted w e = record { trains = w .trains; cars = w .cars; each = e }
 
-  -- ---- check
+  pairs : Answer
+  pairs = pairTest (p .night .lengths) (p .night .inbound) (p .codes)
 
   plan-tests : List Answer
-  plan-tests =
-      codeTest h codes ∷ earlyTest (planOf lengths inbound W C h codes) ∷ roomTest (planOf lengths inbound W C h codes) ∷ orderTest (planOf lengths inbound W C h codes) ∷ []
+  plan-tests = codeTest (p .steps) (p .codes) ∷ earlyTest p ∷ roomTest p ∷ orderTest p ∷ []
 
   done : Answer
-  done = says 0 (passes (planOf lengths inbound W C h codes) h) (fullestPull (planOf lengths inbound W C h codes))
+  done = says 0 (passes p (p .steps)) (fullestPull p)
 
   closed-done : Answer
-  closed-done = says 0 (length codes + setBelow h codes) (fullestOf codes h)
+  closed-done = says 0 (length (p .codes) + setBelow (p .steps) (p .codes)) (fullestOf (p .codes) (p .steps))
 
   -- the tests from 7 on, worked out from the lists
-  closed-check : InLimits limits (length inbound) (length lengths) W C h → Listed lengths inbound → length codes ≡ length inbound → verdict (soundTests W C h codes ++ (pairTest lengths inbound codes ∷ [])) closed-done ≡ verdict plan-tests done
-  unfolding plan-tests done closed-done
+  closed-check : Counts → Listed (p .night .lengths) (p .night .inbound) → length (p .codes) ≡ length (p .night .inbound) →
+      verdict (sound ++ (pairs ∷ [])) closed-done ≡ verdict plan-tests done
+  unfolding pairs plan-tests done closed-done
   closed-check w f e =
-      let p = planOf lengths inbound W C h codes in
-      sound-is p f (w .tracks .0) e
-      (verdict (pairTest lengths inbound codes ∷ []) closed-done)
-      (verdict (orderTest p ∷ []) done)
+      sound-is p f (w .tracks .0) e (verdict (pairs ∷ []) closed-done) (verdict (orderTest p ∷ []) done)
       (λ formed never. order-is p f (w .tracks .0) e formed never (w .cars .0))
 
-  module _ (r₁ : Answer) (is₁ : r₁ ≡ verdict (countTests limits (length inbound) (length lengths) W C h) (says 0 0 0)) where
-    pub check-counts : (r₁ .number ≡ 0 → ⊥) → Checks (planOf lengths inbound W C h codes) r₁
-    unfolding counts plan-tests done checkAnswer
-    check-counts n = record { answer = stops-all counts (givenTests lengths inbound codes ++ plan-tests) done r₁ is₁ n }
+  module _ {r₁ : Answer} (is₁ : Tested (nightCounts limits (p .night) (p .steps)) r₁) where
+    -- an answer of the tests behind the counts
+    behind : r₁ .number ≡ 0 → {r : Answer} → r ≡ verdict (given ++ plan-tests) done → Checks p r
+    unfolding plan-tests done checkAnswer
+    behind z {r} is = record { answer = goes-on-all (nightCounts limits (p .night) (p .steps)) (given ++ plan-tests) done r₁ is₁ r z is }
 
-    module _ (z₁ : r₁ .number ≡ 0) (r₂ : Answer) (is₂ : r₂ ≡ verdict (givenTests lengths inbound codes) (says 0 0 0)) where
-      pub check-given : (r₂ .number ≡ 0 → ⊥) → Checks (planOf lengths inbound W C h codes) r₂
-      unfolding counts plan-tests done checkAnswer
-      check-given n = record { answer = goes-on-all counts (givenTests lengths inbound codes ++ plan-tests) done r₁ is₁ r₂ z₁ (stops-all (givenTests lengths inbound codes) plan-tests done r₂ is₂ n) }
+    pub check-counts : (r₁ .number ≡ 0 → ⊥) → Checks p r₁
+    unfolding plan-tests done checkAnswer
+    check-counts n = record { answer = stops-all (nightCounts limits (p .night) (p .steps)) (given ++ plan-tests) done r₁ is₁ n }
+
+    module _ (z₁ : r₁ .number ≡ 0) {r₂ : Answer} (is₂ : Tested given r₂) where
+      pub check-given : (r₂ .number ≡ 0 → ⊥) → Checks p r₂
+      check-given n = behind z₁ (stops-all given plan-tests done r₂ is₂ n)
 
       module _ (z₂ : r₂ .number ≡ 0) where
         -- what the tests from 7 on say is the answer
-        rest : (r : Answer) → r ≡ verdict (soundTests W C h codes ++ (pairTest lengths inbound codes ∷ [])) closed-done → Checks (planOf lengths inbound W C h codes) r
-        unfolding counts plan-tests done checkAnswer
-        rest r is =
-            let w = counted-within r₁ is₁ z₁ in
-            let g = given-listed r₂ is₂ z₂ in
-            record { answer = goes-on-all counts (givenTests lengths inbound codes ++ plan-tests) done r₁ is₁ r z₁ (goes-on-all (givenTests lengths inbound codes) plan-tests done r₂ is₂ r z₂ (is ∙ closed-check w (g .0) (g .1))) }
+        rest : {r : Answer} → r ≡ verdict (sound ++ (pairs ∷ [])) closed-done → Checks p r
+        rest {r} is =
+            let w = counts-passed is₁ z₁ in
+            let g = given-passed is₂ z₂ in
+            behind z₁ (goes-on-all given plan-tests done r₂ is₂ r z₂ (is ∙ closed-check w (g .0) (g .1)))
 
-        module _ (r₃ : Answer) (is₃ : r₃ ≡ verdict (soundTests W C h codes) (says 0 0 0)) where
-          pub check-sound : (r₃ .number ≡ 0 → ⊥) → Checks (planOf lengths inbound W C h codes) r₃
-          check-sound n = rest r₃ (stops-all (soundTests W C h codes) (pairTest lengths inbound codes ∷ []) closed-done r₃ is₃ n)
+        module _ {r₃ : Answer} (is₃ : Tested sound r₃) where
+          pub check-sound : (r₃ .number ≡ 0 → ⊥) → Checks p r₃
+          check-sound n = rest (stops-all sound (pairs ∷ []) closed-done r₃ is₃ n)
 
-          pub check-ordered : r₃ .number ≡ 0 → (r : Answer) → r ≡ verdict (pairTest lengths inbound codes ∷ []) (says 0 (length codes + setBelow h codes) (fullestOf codes h)) → Checks (planOf lengths inbound W C h codes) r
-          unfolding closed-done
-          check-ordered z₃ r is = rest r (goes-on-all (soundTests W C h codes) (pairTest lengths inbound codes ∷ []) closed-done r₃ is₃ r z₃ is)
+          pub check-ordered : r₃ .number ≡ 0 → {r : Answer} →
+              r ≡ verdict (pairTest (p .night .lengths) (p .night .inbound) (p .codes) ∷ [])
+              (says 0 (length (p .codes) + setBelow (p .steps) (p .codes)) (fullestOf (p .codes) (p .steps))) → Checks p r
+          unfolding pairs closed-done
+          check-ordered z₃ {r} is = rest (goes-on-all sound (pairs ∷ []) closed-done r₃ is₃ r z₃ is)

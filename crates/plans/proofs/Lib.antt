@@ -1,7 +1,8 @@
--- Laws that the proofs of this crate cite.
+-- Laws that the proofs of this crate cite, and in `Demand` what a caller of `check` or `replay` may rely on.
 pub mod Closed
 pub mod Usable
 pub mod Replayed
 pub mod Stages
 pub mod Chain
 pub mod AtStage
+pub mod Demand

@@ -1,23 +1,23 @@
 -- The tests worked out from the lists say what the tests of the replay say, each where those before it are passed.
-use mathlib.Core.Path.{_≡_, refl, sym, ap, ap₂, _∙_, subst}
-use mathlib.Core.Logic.{_⊎_, ⊎-elim}
-use mathlib.Core.Bool.{Bool, true, false, cond, not, _&&_}
-use mathlib.Core.List.{List, [], _∷_, _++_, map}
-use Prim.Native.Nat.{ℕ, zero, suc, _+_, _-_, _^_, max, _≤_, _<_}
+use mathlib.Core.Path.{_≡_, refl, sym, ap, ap₂, _∙_}
+use mathlib.Core.Logic.{⊎-elim}
+use mathlib.Core.Bool.{Bool, not, _&&_}
+use mathlib.Core.List.{List, [], _∷_, map}
+use Prim.Native.Nat.{ℕ, zero, suc, _+_, _-_, max, _≤_, _<_}
 use native.Mathlib.Nat.{le-refl, eq-or-lt-of-le}
 use native.Mathlib.Omega.{arith}
-use lib.Dec.{leb, ltb, eqb}
+use lib.Dec.{leb, ltb}
 use lib.ListN.{length}
 use borrow.Author.Tests.{le-leb}
 use Rattle.yard.specs.declared.Answer.{Answer}
 use Rattle.yard.specs.Words.{place, first, most, count, upFrom}
-use Rattle.yard.specs.Night.{Night, Plan, cars, itemOf, trainOf, pair, broken}
-use Rattle.yard.specs.Replay.{passes, pullSize, fullestPull, firstOverfull, inOrder, codeOf}
+use Rattle.yard.specs.Night.{Plan, cars, pair}
+use Rattle.yard.specs.Replay.{passes, pullSize, fullestPull, firstOverfull, codeOf}
 use Rattle.yard.specs.Answers.{says, test, verdict, roomTest, codeTest, earlyTest, orderTest, ruled, unruled}
-use Rattle.yard.specs.Demands.{Within, Listed, CodesFormed, CodesBelow, NeverEarly}
+use Rattle.yard.specs.Demands.{Within, Listed, CodesFormed, NeverEarly}
 use Rattle.yard.proofs.First.{first-le, first-same}
 use Rattle.yard.proofs.Lists.{count-head, count-tail, upFrom-bounds}
-use Rattle.yard.proofs.Verdict.{Passed, verdict-after, verdict-refused}
+use Rattle.yard.proofs.Verdict.{verdict-after, verdict-refused}
 use Rattle.yard.proofs.Plans.{early-passed, range-once}
 use Rattle.yard.proofs.Building.{order-ruled}
 use Rattle.yard.proofs.DerivedPlan.{by-car}
@@ -26,7 +26,8 @@ use Rattle.yard.proofs.EarlySearch.{early-test}
 use Rattle.yard.proofs.Rights.{codes-passed}
 use Rattle.sorting.specs.Sums.{pullOf, setBelow, firstAbove, fullestOf}
 use Rattle.pairs.specs.Pairs.{unruledAt}
-use Rattle.plans.specs.Closed.{waitTest, fullTest, soundTests, firstPair, pairTest}
+use Rattle.sorting.specs.Closed.{waitTest, fullTest}
+use Rattle.plans.specs.Closed.{soundTests, firstPair, pairTest}
 
 -- verdicts that agree behind a test agree
 pub verdict-under : (t : Answer) (us vs : List Answer) (x y : Answer) → (t .number ≡ 0 → verdict us x ≡ verdict vs y) → verdict (t ∷ us) x ≡ verdict (t ∷ vs) y
@@ -40,7 +41,8 @@ most-same : (f g : ℕ → ℕ) (l : List ℕ) → ((x : ℕ) → 0 < count x l 
 most-same f g [] e = refl
 most-same f g (x ∷ l) e = ap₂ (λ (a b : ℕ). max a b) (e x (count-head x l)) (most-same f g l (λ y m. e y (count-tail y x l m)))
 
-module _ (p : Plan) (f : Listed (p .night .lengths) (p .night .inbound)) (pos : 0 < p .night .tracks) (each : length (p .codes) ≡ length (p .night .inbound)) where
+module _ (p : Plan) (f : Listed (p .night .lengths) (p .night .inbound)) (pos : 0 < p .night .tracks)
+    (each : length (p .codes) ≡ length (p .night .inbound)) where
   module _ (formed : CodesFormed p) (never : NeverEarly p) where
     -- 6: the replay overfills a track where more codes name a step than there is room for
     room-full : roomTest p ≡ fullTest (p .night .room) (p .steps) (p .codes)
@@ -48,7 +50,8 @@ module _ (p : Plan) (f : Listed (p .night .lengths) (p .night .inbound)) (pos : 
     room-full =
         ap (λ (k : ℕ). test (leb h k) (says 6 k (pullSize p k))) found ∙
         ⊎-elim
-        (λ e. ap (λ (b : Bool). test b (says 6 a (pullSize p a))) (le-leb h a (omega arith)) ∙ sym (ap (λ (b : Bool). test b (says 6 a (pullOf (p .codes) a))) (le-leb h a (omega arith))))
+        (λ e. ap (λ (b : Bool). test b (says 6 a (pullSize p a))) (le-leb h a (omega arith)) ∙
+        sym (ap (λ (b : Bool). test b (says 6 a (pullOf (p .codes) a))) (le-leb h a (omega arith))))
         (λ l. ap (λ (n : ℕ). test (leb h a) (says 6 a n)) (pullSize-codes p f formed never a l))
         (eq-or-lt-of-le (within (first-le (λ k. ltb (p .night .room) (pullOf (p .codes) k)) h 0)))
       where
@@ -59,7 +62,8 @@ module _ (p : Plan) (f : Listed (p .night .lengths) (p .night .inbound)) (pos : 
         a = firstAbove (p .night .room) (p .codes) h
 
         found : firstOverfull p ≡ a
-        found = first-same (λ k. ltb (p .night .room) (pullSize p k)) (λ k. ltb (p .night .room) (pullOf (p .codes) k)) h 0 (λ k l m. ap (λ (n : ℕ). ltb (p .night .room) n) (pullSize-codes p f formed never k (omega arith)))
+        found = first-same (λ k. ltb (p .night .room) (pullSize p k)) (λ k. ltb (p .night .room) (pullOf (p .codes) k)) h 0
+            (λ k l m. ap (λ (n : ℕ). ltb (p .night .room) n) (pullSize-codes p f formed never k (omega arith)))
 
         within : a ≤ 0 + h → a ≤ h
         within l = omega arith
@@ -69,12 +73,14 @@ module _ (p : Plan) (f : Listed (p .night .lengths) (p .night .inbound)) (pos : 
 
     fullest-is : fullestOf (p .codes) (p .steps) ≡ fullestPull p
     unfolding fullestPull
-    fullest-is = sym (most-same (pullSize p) (pullOf (p .codes)) (upFrom 0 (p .steps)) (λ k m. pullSize-codes p f formed never k (omega (arith, upFrom-bounds k 0 (p .steps) m))))
+    fullest-is = sym (most-same (pullSize p) (pullOf (p .codes)) (upFrom 0 (p .steps))
+        (λ k m. pullSize-codes p f formed never k (omega (arith, upFrom-bounds k 0 (p .steps) m))))
 
     -- 9: a pair that breaks the rule
     pair-is : first (unruled p) (length (p .night .inbound) - 1) 1 ≡ firstPair (p .night .lengths) (p .night .inbound) (p .codes)
     pair-is =
-        first-same (unruled p) (unruledAt (p .night .lengths) places (p .codes)) (length (p .night .inbound) - 1) 1 (λ j l m. alike j (l, omega arith) (omega arith, omega arith)) ∙
+        first-same (unruled p) (unruledAt (p .night .lengths) places (p .codes)) (length (p .night .inbound) - 1) 1
+        (λ j l m. alike j (l, omega arith) (omega arith, omega arith)) ∙
         ap (λ (n : ℕ). first (unruledAt (p .night .lengths) (map (λ car. place car (p .night .inbound)) (cars n)) (p .codes)) (n - 1) 1) (sym each)
       where
         n : ℕ
@@ -86,7 +92,8 @@ module _ (p : Plan) (f : Listed (p .night .lengths) (p .night .inbound)) (pos : 
         alike : (j : ℕ) → Within 1 n j → Within 1 n (suc j) → unruled p j ≡ unruledAt (p .night .lengths) places (p .codes) j
         alike j w v =
             ap (λ (b : Bool). pair (p .night .lengths) j && not (ruled (codeOf p j) (codeOf p (suc j)) b))
-            (ap₂ (λ (a b : ℕ). ltb a b) (sym (by-car (λ car. place car (p .night .inbound)) n (suc j) v)) (sym (by-car (λ car. place car (p .night .inbound)) n j w)))
+            (ap₂ (λ (a b : ℕ). ltb a b) (sym (by-car (λ car. place car (p .night .inbound)) n (suc j) v))
+            (sym (by-car (λ car. place car (p .night .inbound)) n j w)))
 
     pair-test : 1 ≤ length (p .night .inbound) → orderTest p ≡ pairTest (p .night .lengths) (p .night .inbound) (p .codes)
     pair-test some =
@@ -94,11 +101,17 @@ module _ (p : Plan) (f : Listed (p .night .lengths) (p .night .inbound)) (pos : 
         (order-ruled p f formed never some ∙ ap₂ (λ (n j : ℕ). leb n j) (sym each) pair-is)
         pair-is
 
-    pub order-is : 1 ≤ length (p .night .inbound) → verdict (pairTest (p .night .lengths) (p .night .inbound) (p .codes) ∷ []) (says 0 (length (p .codes) + setBelow (p .steps) (p .codes)) (fullestOf (p .codes) (p .steps))) ≡ verdict (orderTest p ∷ []) (says 0 (passes p (p .steps)) (fullestPull p))
-    order-is some = ap₂ (λ (t d : Answer). verdict (t ∷ []) d) (sym (pair-test some)) (ap₂ (λ (a b : ℕ). says 0 a b) (passes-is (p .steps) (le-refl (p .steps))) fullest-is)
+    pub order-is : 1 ≤ length (p .night .inbound)
+        → verdict (pairTest (p .night .lengths) (p .night .inbound) (p .codes) ∷ [])
+        (says 0 (length (p .codes) + setBelow (p .steps) (p .codes)) (fullestOf (p .codes) (p .steps))) ≡ verdict (orderTest p ∷ [])
+        (says 0 (passes p (p .steps)) (fullestPull p))
+    order-is some = ap₂ (λ (t d : Answer). verdict (t ∷ []) d) (sym (pair-test some))
+        (ap₂ (λ (a b : ℕ). says 0 a b) (passes-is (p .steps) (le-refl (p .steps))) fullest-is)
 
   -- 7, 8 and 6, and what follows
-  pub sound-is : (x y : Answer) → (CodesFormed p → NeverEarly p → x ≡ y) → verdict (soundTests (p .night .tracks) (p .night .room) (p .steps) (p .codes)) x ≡ verdict (codeTest (p .steps) (p .codes) ∷ earlyTest p ∷ roomTest p ∷ []) y
+  pub sound-is : (x y : Answer) → (CodesFormed p → NeverEarly p → x ≡ y)
+      → verdict (soundTests (p .night .tracks) (p .night .room) (p .steps) (p .codes)) x ≡ verdict
+      (codeTest (p .steps) (p .codes) ∷ earlyTest p ∷ roomTest p ∷ []) y
   sound-is x y e =
       verdict-under (codeTest (p .steps) (p .codes)) (waits ∷ full ∷ []) (earlyTest p ∷ roomTest p ∷ []) x y
       (λ c.

@@ -69,7 +69,8 @@ module _ (lengths inbound codes : List ℕ) (W h stage : ℕ) (on at : List ℕ)
           let r = train-cars lengths inbound (p .lists) car w in
           omega (arith, r .1, r .2, p .counted .trains .1, p .tracks .0, p .tracks .1)
 
-  module _ (order on₁ : List ℕ) (sorts : order ≡ sortedTo codes inbound stage) (fills : Front (map (trackBy lengths codes W h stage) (cars (length codes))) on (length codes) on₁) where
+  module _ (order on₁ : List ℕ) (sorts : order ≡ sortedTo codes inbound stage)
+      (fills : Front (map (trackBy lengths codes W h stage) (cars (length codes))) on (length codes) on₁) where
     same : length order ≡ length inbound
     same = ap length sorts ∙ sortedTo-length codes inbound stage
 
@@ -80,7 +81,7 @@ module _ (lengths inbound codes : List ℕ) (W h stage : ℕ) (on at : List ℕ)
     item-track : (car : ℕ) → Within 1 (length inbound) car → itemOf on₁ car ≡ trackBy lengths codes W h stage car
     item-track car w =
         let v : Within 1 (length codes) car = (w .0, omega (arith, w .1, p .counted .each)) in
-        front-item (car - 1) (omega (arith, v .0, v .1)) fills ∙ by-car (trackBy lengths codes W h stage) (length codes) car v
+        front-item fills (car - 1) (omega (arith, v .0, v .1)) ∙ by-car (trackBy lengths codes W h stage) (length codes) car v
 
     pub standable : Standable order on₁ at
     standable =
@@ -111,4 +112,5 @@ module _ (lengths inbound codes : List ℕ) (W h stage : ℕ) (on at : List ℕ)
             (b .0, omega (arith, b .1, same))
 
         place-same : (car : ℕ) → Within 1 (length inbound) car → placeBy order (itemOf on₁) car ≡ placeBy order (trackBy lengths codes W h stage) car
-        place-same car w = ap (λ (l : List ℕ). place car l) (keep-same _ _ order (λ c m. ap₂ (λ (a b : ℕ). eqb a b) (item-track car w) (item-track c (among c m))))
+        place-same car w = ap (λ (l : List ℕ). place car l)
+            (keep-same _ _ order (λ c m. ap₂ (λ (a b : ℕ). eqb a b) (item-track car w) (item-track c (among c m))))

@@ -1,20 +1,19 @@
 -- Where the table says of every code that it needs no more tracks than there are, the search finds no early pull.
-use mathlib.Core.Path.{_≡_, refl, sym, ap, _∙_, subst}
+use mathlib.Core.Path.{_≡_, ap, _∙_, subst}
 use mathlib.Core.Bool.{Bool, true, false, not, _&&_}
 use mathlib.Core.List.{List}
 use Prim.Native.Nat.{ℕ, suc, _+_, _-_, _%_, _^_, _≤_, _<_}
 use native.Mathlib.Nat.{lt-of-lt-of-le}
 use native.Mathlib.Omega.{arith}
-use lib.Dec.{leb, ltb, eqb}
+use lib.Dec.{ltb, eqb}
 use lib.ListN.{length, getD}
 use lib.Pow.{pow-mono}
-use borrow.Author.Tests.{leb-true, le-leb, lt-leb, ltb-true, ltb-false, eqb-true}
-use Rattle.yard.specs.Words.{first}
+use borrow.Author.Tests.{le-leb, lt-leb, ltb-true, ltb-false, eqb-true}
 use Rattle.yard.specs.Night.{itemOf}
 use Rattle.yard.specs.Codes.{usable, fewestTracks}
 use Rattle.yard.specs.Replay.{bit, nextStep}
 use Rattle.yard.specs.Answers.{says, test}
-use Rattle.yard.specs.Demands.{Within, CodesBelow}
+use Rattle.yard.specs.Demands.{CodesBelow}
 use Rattle.yard.proofs.Bools.{and-left, and-right, not-so, not-true}
 use Rattle.yard.proofs.First.{first-none, first-fails}
 use Rattle.yard.proofs.Tests.{item-at}
@@ -24,7 +23,7 @@ use Rattle.yard.specs.Waiting.{waits, lowestWaiting, someWaits, firstWaiting}
 use Rattle.codes.proofs.Gap.{usable-fewest}
 use Rattle.scan.specs.Front.{Under}
 use Rattle.codes.specs.Wider.{wider, firstWider}
-use Rattle.plans.specs.Closed.{waitTest}
+use Rattle.sorting.specs.Closed.{waitTest}
 
 -- a car with a usable code waits for no later step on the track of this one
 kept-waits : (W h x s : ℕ) → Kept W h x → s < h → waits W h x s ≡ false
@@ -35,7 +34,8 @@ kept-waits W h x s kept l =
     let bound = ltb (nextStep h x s) h in
     let same = eqb (nextStep h x s % W) (s % W) in
     let later = and-right free (bound && same) e in
-    kept s l (not-true (bit s x) (and-left free (bound && same) e)) (ltb-true (nextStep h x s) h (and-left bound same later)) (eqb-true (nextStep h x s % W) (s % W) (and-right bound same later)))
+    kept s l (not-true (bit s x) (and-left free (bound && same) e)) (ltb-true (nextStep h x s) h (and-left bound same later))
+    (eqb-true (nextStep h x s % W) (s % W) (and-right bound same later)))
 
 module _ (W h : ℕ) (codes : List ℕ) (pos : 0 < W) (few : h ≤ 8) (below : CodesBelow h codes) where
   code-below : (i : ℕ) → i < length codes → getD codes i 0 < 2 ^ h

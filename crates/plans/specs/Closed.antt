@@ -11,11 +11,8 @@ use Rattle.yard.specs.Night.{nightOf, cars}
 use Rattle.yard.specs.Answers.{says, test, listTest, codeTest}
 use Rattle.yard.specs.Calls.{nightTests}
 use Rattle.yard.specs.Demands.{Within, Listed}
-use Rattle.yard.specs.Waiting.{firstWaiting, lowestWaiting}
 use Rattle.scan.specs.Front.{Front}
-use Rattle.sorting.specs.declared.early.Early.{Early}
-use Rattle.sorting.specs.declared.early.Early.the-variants.{At, Never}
-use Rattle.sorting.specs.Sums.{pullOf, firstAbove}
+use Rattle.sorting.specs.Closed.{waitTest, fullTest}
 use Rattle.pairs.specs.Pairs.{unruledAt}
 use Rattle.order.specs.Order.{sortedTo}
 use Rattle.stage.specs.Stages.{trackBy, placeBy}
@@ -23,19 +20,6 @@ use Rattle.stage.specs.Stages.{trackBy, placeBy}
 -- 2, 3 and 4: the lists of a plan
 abbrev pub givenTests : List ℕ → List ℕ → List ℕ → List Answer
 givenTests lengths inbound codes = nightTests (nightOf lengths inbound 0 0) ++ (listTest 3 (eqb (length codes) (length inbound)) ∷ [])
-
--- what the yard is told of the first early pull
-abbrev pub earlyAnswer : Early → Answer
-earlyAnswer (At step car) = says 8 car step
-earlyAnswer Never = says 0 0 0
-
--- 8: the first step at which a car waits on the track of a step that its code does not name
-abbrev pub waitTest : ℕ → ℕ → List ℕ → Answer
-waitTest W h codes = test (leb h (firstWaiting W h codes)) (says 8 (lowestWaiting W h codes (firstWaiting W h codes)) (firstWaiting W h codes))
-
--- 6: the first step that more codes name than there is room for
-abbrev pub fullTest : ℕ → ℕ → List ℕ → Answer
-fullTest C h codes = test (leb h (firstAbove C codes h)) (says 6 (firstAbove C codes h) (pullOf codes (firstAbove C codes h)))
 
 -- 7, 8 and 6
 abbrev pub soundTests : ℕ → ℕ → ℕ → List ℕ → List Answer

@@ -12,7 +12,9 @@ ghost use Rattle.yard.specs.Calls.{Checks, Replays};
 ghost use Rattle.yard.specs.Demands.{Listed, CodesBelow};
 ghost use Rattle.sorting.specs.Early.{earlyFound};
 ghost use Rattle.sorting.specs.Sums.{setBelow, fullestOf};
-ghost use Rattle.plans.specs.Closed.{givenTests, earlyAnswer, waitTest, fullTest, soundTests, firstPair, pairTest, Counted, placedTests, Placeable, Placed};
+ghost use Rattle.sorting.specs.Closed.{earlyAnswer, waitTest, fullTest};
+ghost use Rattle.plans.specs.Closed.{givenTests, soundTests};
+ghost use Rattle.plans.specs.Closed.{firstPair, pairTest, Counted, placedTests, Placeable, Placed};
 
 // 2, 3 and 4: the lists of a plan.
 fn given(lengths: &[u16], inbound: &[u16], codes: &[u16]) -> Answer
@@ -88,8 +90,10 @@ fn first_pair(lengths: &[u16], inbound: &[u16], codes: &[u16]) -> usize
 
 // 9: the trains in order, or else the lowest second car of a pair that breaks the rule; then the passes and the fullest pull.
 fn ordered(lengths: &[u16], inbound: &[u16], codes: &[u16], fullest: usize, steps: usize) -> Answer
-    requires { ⌜ Counted (now lengths) (now inbound) (now codes) × Listed (now lengths) (now inbound) × (steps ≤ limits .steps) × (fullest ≡ fullestOf (now codes) steps) ⌝ }
-    ensures { λ r. ⌜ r ≡ verdict (pairTest (now (lengths .entry)) (now (inbound .entry)) (now (codes .entry)) ∷ []) (says 0 (length (now (codes .entry)) + setBelow steps (now (codes .entry))) (fullestOf (now (codes .entry)) steps)) ⌝ }
+    requires { ⌜ Counted (now lengths) (now inbound) (now codes) × Listed (now lengths)
+        (now inbound) × (steps ≤ limits .steps) × (fullest ≡ fullestOf (now codes) steps) ⌝ }
+    ensures { λ r. ⌜ r ≡ verdict (pairTest (now (lengths .entry)) (now (inbound .entry)) (now (codes .entry)) ∷ [])
+        (says 0 (length (now (codes .entry)) + setBelow steps (now (codes .entry))) (fullestOf (now (codes .entry)) steps)) ⌝ }
 {
     let j = first_pair(lengths, inbound, codes);
     if j < codes.len() {
@@ -175,7 +179,8 @@ pub fn replay(
     on: &mut [u16],
     at: &mut [u16],
 ) -> Answer
-    ensures { λ r. ⌜ Replays (planOf (now (lengths .entry)) (now (inbound .entry)) tracks room steps (now (codes .entry))) stage (now (on .entry)) (now (at .entry)) r (now (on .exit)) (now (at .exit)) ⌝ }
+    ensures { λ r. ⌜ Replays (planOf (now (lengths .entry)) (now (inbound .entry)) tracks room steps (now (codes .entry))) stage (now (on .entry))
+        (now (at .entry)) r (now (on .exit)) (now (at .exit)) ⌝ }
 {
     let counted = intake::counts(inbound.len(), lengths.len(), tracks, room, steps);
     if counted.number != 0 {

@@ -76,7 +76,8 @@ module _ (x : Float) (fit : T (fits binary64 x)) where
 
     pub timing-cut : toUnsigned 64 (scaled x) ≡ sixteenths x
     unfolding inFloat
-    timing-cut = ap (toUnsigned 64) scaled-is ∙ unsigned-back binary64 64 (sixteenths x) (le→leb (sixteenths x) (2 ^ 53) (le-of-lt few)) (lt-of-lt-of-le few (lit≤ tt)) .1
+    timing-cut = ap (toUnsigned 64) scaled-is ∙
+        unsigned-back binary64 64 (sixteenths x) (le→leb (sixteenths x) (2 ^ 53) (le-of-lt few)) (lt-of-lt-of-le few (lit≤ tt)) .1
 
   -- what the way ends in: k sixteenths, and the double y that they are worth
   module _ {A : Type 0} (sixteenthsAs : ℕ → A) (notAllowed : A) where
@@ -88,7 +89,8 @@ module _ (x : Float) (fit : T (fits binary64 x)) where
       accepted b e =
           let most : k ≤ 65536 = subst⁻¹ (λ (n : ℕ). n ≤ 65536) cut (between-cut (scaled x) b .1) in
           let small : k < 2 ^ 53 = lt-of-le-of-lt most (lit< tt) in
-          let same : seconds k ≡ x = sym (ofBits-toBits binary64 (seconds k) (seconds-fits k)) ∙ ap (ofBits binary64) (ap (toBits binary64) (sym worth) ∙ e) ∙ ofBits-toBits binary64 x fit in
+          let same : seconds k ≡ x = sym (ofBits-toBits binary64 (seconds k) (seconds-fits k)) ∙
+          ap (ofBits binary64) (ap (toBits binary64) (sym worth) ∙ e) ∙ ofBits-toBits binary64 x fit in
           sym
           (subst (λ (z : Float). cond (timing z) (sixteenthsAs (sixteenths z)) notAllowed ≡ sixteenthsAs k) same
           (rw (seconds-timing k most, seconds-worth k small)))

@@ -1,9 +1,8 @@
 -- Laws of the next step of a code, and of the search over steps, then cars.
 use mathlib.Core.Path.{_≡_, refl, sym, ap, ap₂, _∙_}
-use mathlib.Core.Logic.{_⊎_, ⊎-elim}
+use mathlib.Core.Logic.{⊎-elim}
 use mathlib.Core.Bool.{Bool, true, false, cond, not, _&&_, and-false}
-use mathlib.Core.List.{List}
-use Prim.Native.Nat.{ℕ, zero, suc, _+_, _-_, _*_, _/_, _%_, _^_, min, _≤_, _<_}
+use Prim.Native.Nat.{ℕ, zero, suc, _+_, _/_, _%_, _^_, min, _≤_, _<_}
 use native.Mathlib.Nat.{mod-lt, pow-suc, div-div-eq-div-mul, eq-or-lt-of-le}
 use native.Mathlib.Omega.{arith}
 use lib.Count.{trailingZeros, under}
@@ -34,7 +33,8 @@ next-zeros (suc k) h x s l m =
     go zero e b lt later =
         ap₂ (λ (i j : ℕ). cond (eqb i 1) s j) e later ∙
         (omega (arith, ap (λ (j : ℕ). trailingZeros k j) half) ∙ ap (λ (i : ℕ). min h (s + under i (trailingZeros k (x / 2 ^ s / 2)))) (sym e))
-    go (suc zero) e b lt later = ap (λ (i : ℕ). cond (eqb i 1) s (nextStep h x (suc s))) e ∙ (omega arith ∙ ap (λ (i : ℕ). min h (s + under i (trailingZeros k (x / 2 ^ s / 2)))) (sym e))
+    go (suc zero) e b lt later = ap (λ (i : ℕ). cond (eqb i 1) s (nextStep h x (suc s))) e ∙
+        (omega arith ∙ ap (λ (i : ℕ). min h (s + under i (trailingZeros k (x / 2 ^ s / 2)))) (sym e))
     go (suc (suc d)) e b lt later = absurd (omega arith)
 
 -- a code names a step exactly if its next step from there on is that step
@@ -50,12 +50,15 @@ next-bit h x s l = go (bit s x) refl
 -- a car waits exactly if its next step is another, is to come, and uses the same track
 module _ (W h x s next : ℕ) (l : s < h) (is : next ≡ nextStep h x s) where
   pub waits-named : next ≡ s → false ≡ waits W h x s
-  waits-named e = sym (ap (λ (b : Bool). not b && (ltb (nextStep h x s) h && eqb (nextStep h x s % W) (s % W))) (sym (next-bit h x s l) ∙ eq-eqb (nextStep h x s) s (sym is ∙ e)))
+  waits-named e = sym (ap (λ (b : Bool). not b && (ltb (nextStep h x s) h && eqb (nextStep h x s % W) (s % W)))
+      (sym (next-bit h x s l) ∙ eq-eqb (nextStep h x s) s (sym is ∙ e)))
 
   pub waits-last : h ≤ next → false ≡ waits W h x s
-  waits-last m = sym (ap (λ (b : Bool). not (bit s x) && (b && eqb (nextStep h x s % W) (s % W))) (le-ltb (nextStep h x s) h (omega arith)) ∙ and-false (not (bit s x)))
+  waits-last m = sym (ap (λ (b : Bool). not (bit s x) && (b && eqb (nextStep h x s % W) (s % W))) (le-ltb (nextStep h x s) h (omega arith)) ∙
+      and-false (not (bit s x)))
 
   pub waits-later : (next ≡ s → ⊥) → next < h → eqb (next % W) (s % W) ≡ waits W h x s
   waits-later n m =
       ap (λ (k : ℕ). eqb (k % W) (s % W)) is ∙
-      sym (ap₂ (λ (b c : Bool). not b && (c && eqb (nextStep h x s % W) (s % W))) (sym (next-bit h x s l) ∙ ne-eqb (nextStep h x s) s (λ e. n (is ∙ e))) (lt-ltb (nextStep h x s) h (omega arith)))
+      sym (ap₂ (λ (b c : Bool). not b && (c && eqb (nextStep h x s % W) (s % W)))
+      (sym (next-bit h x s l) ∙ ne-eqb (nextStep h x s) s (λ e. n (is ∙ e))) (lt-ltb (nextStep h x s) h (omega arith)))

@@ -1,5 +1,5 @@
 -- Sums over a list of codes: what the laws of the replay say of passes and pulls.
-use Prim.Native.Nat.{ℕ, _+_, _%_, _^_}
+use Prim.Native.Nat.{ℕ, _%_, _^_}
 use mathlib.Core.Bool.{Bool}
 use mathlib.Core.List.{List}
 use lib.Count.{ones}

@@ -1,7 +1,6 @@
 // The search for the first early pull, from the codes alone.
 ghost use mathlib.Core.Path.{_≡_};
 ghost use Prim.Native.Nat.{_+_, _≤_, _<_};
-ghost use lib.ListN.{length};
 ghost use Rattle.yard.specs.Limits.{limits};
 ghost use Rattle.yard.specs.Replay.{nextStep};
 ghost use Rattle.yard.specs.Waiting.{waits};

@@ -1,17 +1,17 @@
 -- Laws of lists by car that a loop fills car by car, in any order.
-use mathlib.Core.Path.{_≡_, sym, ap, ap₂, _∙_, subst}
+use mathlib.Core.Path.{_≡_, sym, ap, _∙_, subst}
 use mathlib.Core.Logic.{_⊎_, inl, inr, ⊎-elim}
-use mathlib.Core.List.{List, [], _∷_, _++_, map, append-assoc, append-nil, map-append}
+use mathlib.Core.List.{List, _++_, map}
 use Prim.Native.Nat.{ℕ, suc, _+_, _-_, _≤_, _<_}
 use native.Mathlib.Numerals.{add-one}
 use native.Mathlib.Omega.{arith}
-use lib.ListN.{length, getD, take, drop, set, length-append, length-drop, length-map, length-set, take-append-drop, drop-of-length-le, List·getD-append}
-use lib.Seq.{take-suc, take-all, drop-cons, set-at, ext-getD, getD-append-add, getD-drop, getD-set-same, getD-set-other, length-take-le}
+use lib.ListN.{length, getD, take, drop, set, length-append, length-drop, length-set, take-append-drop, List·getD-append}
+use lib.Seq.{drop-cons, ext-getD, getD-append-add, getD-drop, getD-set-same, getD-set-other, length-take-le}
 use Rattle.yard.specs.Words.{count, place}
 use Rattle.yard.specs.Night.{cars}
 use Rattle.yard.specs.Demands.{Within, EachOnce}
 use Rattle.yard.proofs.Numbers.{le-or-lt, below-suc, compared}
-use Rattle.yard.proofs.Lists.{count-upFrom-in, upFrom-bounds, count-append}
+use Rattle.yard.proofs.Lists.{count-upFrom-in, upFrom-bounds}
 use Rattle.yard.proofs.Order.{place-right, place-here, place-among}
 use Rattle.yard.proofs.Formed.{count-at, place-holds}
 use Rattle.yard.proofs.DerivedPlan.{map-item, length-by-car}
@@ -25,11 +25,14 @@ pub record Filled (f : ℕ → ℕ) (n : ℕ) (done : ℕ → Type 0) (before no
   pub given : (car : ℕ) → Within 1 n car → done car → getD now (car - 1) 0 ≡ f car
   pub kept : (k : ℕ) → n ≤ k → getD now k 0 ≡ getD before k 0
 
-pub filled-all : (f : ℕ → ℕ) (n : ℕ) (done : ℕ → Type 0) (before now : List ℕ) → n ≤ length before → ((car : ℕ) → Within 1 n car → done car) → Filled f n done before now → Front (map f (cars n)) before n now
+pub filled-all : (f : ℕ → ℕ) (n : ℕ) (done : ℕ → Type 0) (before now : List ℕ) → n ≤ length before → ((car : ℕ) → Within 1 n car → done car)
+    → Filled f n done before now → Front (map f (cars n)) before n now
 filled-all f n done before now l all r =
     record {
       number = sym (length-by-car f n);
-      listed = ext-getD 0 now (map f (cars n) ++ drop n before) (r .size ∙ long) (λ k m. ⊎-elim (λ far. late k far) (λ near. early k near) (le-or-lt n k));
+      listed =
+          ext-getD 0 now (map f (cars n) ++ drop n before) (r .size ∙ long) (λ k m. ⊎-elim (λ far. late k far) (λ near. early k near) (le-or-lt n k)) ∙
+          ap (λ (k : ℕ). map f (cars n) ++ drop k before) (sym (length-by-car f n));
     }
   where
     long : length before ≡ length (map f (cars n) ++ drop n before)
@@ -49,14 +52,18 @@ filled-all f n done before now l all r =
         let e : k ≡ length (map f (cars n)) + (k - n) = omega (arith, length-by-car f n) in
         let b : n + (k - n) ≡ k = omega arith in
         r .kept k m ∙
-        sym (ap (λ (j : ℕ). getD (map f (cars n) ++ drop n before) j 0) e ∙ (getD-append-add (map f (cars n)) (drop n before) (k - n) 0 ∙ (getD-drop n before (k - n) 0 ∙ ap (λ (j : ℕ). getD before j 0) b)))
+        sym (ap (λ (j : ℕ). getD (map f (cars n) ++ drop n before) j 0) e ∙
+        (getD-append-add (map f (cars n)) (drop n before) (k - n) 0 ∙ (getD-drop n before (k - n) 0 ∙ ap (λ (j : ℕ). getD before j 0) b)))
 
 -- one car more gets its item
-pub filled-next : (f : ℕ → ℕ) (n : ℕ) (done more : ℕ → Type 0) (before now : List ℕ) (car : ℕ) → n ≤ length before → Within 1 n car → ((other : ℕ) → more other → (other ≡ car) ⊎ done other) → Filled f n done before now → Filled f n more before (set now (car - 1) (f car))
+pub filled-next : (f : ℕ → ℕ) (n : ℕ) (done more : ℕ → Type 0) (before now : List ℕ) (car : ℕ) → n ≤ length before → Within 1 n car
+    → ((other : ℕ) → more other → (other ≡ car) ⊎ done other) → Filled f n done before now → Filled f n more before (set now (car - 1) (f car))
 filled-next f n done more before now car l w split r =
     record {
       size = length-set now (car - 1) (f car) ∙ r .size;
-      given = λ other v m. ⊎-elim (λ e. same other e) (λ d. compared (getD (set now (car - 1) (f car)) (other - 1) 0 ≡ f other) other car (λ o. differs other v d (λ e. omega (arith, v .0))) (λ e. same other e) (λ o. differs other v d (λ e. omega (arith, w .0)))) (split other m);
+      given = λ other v m. ⊎-elim (λ e. same other e)
+          (λ d. compared (getD (set now (car - 1) (f car)) (other - 1) 0 ≡ f other) other car (λ o. differs other v d (λ e. omega (arith, v .0)))
+          (λ e. same other e) (λ o. differs other v d (λ e. omega (arith, w .0)))) (split other m);
       kept = λ k m. getD-set-other now (car - 1) k (f car) 0 (λ e. omega (arith, w .0, w .1)) ∙ r .kept k m;
     }
   where
@@ -89,7 +96,8 @@ module _ (l : List ℕ) (once : EachOnce l) where
   pub place-split : (i car : ℕ) → Within 1 (length l) car → place car l < i + 1 → (car ≡ getD l i 0) ⊎ (place car l < i)
   place-split i car w m =
       let among : 0 < count car l = omega (arith, once car, count-upFrom-in car 1 (length l) (w .0) (omega (arith, w .1))) in
-      ⊎-elim (λ e. inl (sym (place-holds l car among) ∙ ap (λ (k : ℕ). getD l k 0) e)) (λ lt. inr lt) (below-suc (subst (λ (k : ℕ). place car l < k) (add-one i) m))
+      ⊎-elim (λ e. inl (sym (place-holds l car among) ∙ ap (λ (k : ℕ). getD l k 0) e)) (λ lt. inr lt)
+      (below-suc (subst (λ (k : ℕ). place car l < k) (add-one i) m))
 
   pub place-below : (car : ℕ) → Within 1 (length l) car → place car l < length l
   place-below car w = place-among car l (omega (arith, once car, count-upFrom-in car 1 (length l) (w .0) (omega (arith, w .1))))

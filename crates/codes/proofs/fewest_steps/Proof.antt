@@ -30,8 +30,13 @@ abbrev μ-loop : tie.MeasureT-loop
 loop-holds : tie.Need-loop-holds Inv-loop μ-loop
 unfolding fewestSteps
 loop-holds c =
-    let args = c .args in
-    (omega arith, refl, refl, ring-first (args .tracks) (c .pre .0 .0) (limits .tracks) (c .pre .0 .1), ap (λ (n : ℕ). first (enough (args .tracks) (args .breaks)) n 0) (sub-zero (args .breaks)))
+    let args = c .args in (
+      omega arith,
+      refl,
+      refl,
+      ring-first (args .tracks) (c .pre .0 .0) (limits .tracks) (c .pre .0 .1),
+      ap (λ (n : ℕ). first (enough (args .tracks) (args .breaks)) n 0) (sub-zero (args .breaks)),
+    )
 
 slice-aggregate-lost : tie.Need-slice-aggregate-lost Inv-loop μ-loop
 slice-aggregate-lost c = sym (c .before .before .loop .inv .2)
@@ -42,10 +47,18 @@ lost-requires c κs =
     (omega arith, omega arith, held .1, held .3)
 
 sub-codes : tie.Need-sub-codes Inv-loop μ-loop
-sub-codes c = omega (arith, F-next (c .before .before .before .before .before .args .tracks) (c .before .before .before .before .loop .steps), c .before .lost .ensures .0)
+sub-codes c = omega (
+  arith,
+  F-next (c .before .before .before .before .before .args .tracks) (c .before .before .before .before .loop .steps),
+  c .before .lost .ensures .0,
+)
 
 loop-less : tie.Need-loop-less Inv-loop μ-loop
-loop-less c = omega (arith, F-above (c .before .before .before .before .before .args .tracks) (c .before .before .before .before .loop .steps) (c .before .before .before .before .before .pre .0 .0))
+loop-less c = omega (
+  arith,
+  F-above (c .before .before .before .before .before .args .tracks) (c .before .before .before .before .loop .steps)
+      (c .before .before .before .before .before .pre .0 .0),
+)
 
 loop-again : tie.Need-loop-again Inv-loop μ-loop
 loop-again c =
@@ -59,11 +72,13 @@ loop-again c =
       rw add-one (omega (arith, F-next (args .tracks) steps, called .lost .ensures .0)),
       called .lost .kept .0 ∙ held .2,
       called .lost .ensures .1,
-      sym (first-goes (enough (args .tracks) (args .breaks)) (args .breaks) steps steps before (lt-leb (suc (args .breaks)) (F (args .tracks) steps) (omega arith))) ∙ held .4,
+      sym (first-goes (enough (args .tracks) (args .breaks)) (args .breaks) steps steps before
+          (lt-leb (suc (args .breaks)) (F (args .tracks) steps) (omega arith))) ∙ held .4,
     )
 
 returns : tie.Need-returns Inv-loop μ-loop
-returns c = fewest-found (c .before .before .args .tracks) (c .before .before .args .breaks) (c .before .loop .steps) (omega arith) (omega arith) (c .before .loop .inv .4)
+returns c = fewest-found (c .before .before .args .tracks) (c .before .before .args .breaks) (c .before .loop .steps) (omega arith) (omega arith)
+    (c .before .loop .inv .4)
 
 pub fewest-steps-spec : {M : Type 1} → statement M
 fewest-steps-spec =

@@ -32,11 +32,14 @@ small c = c .before .before .before .before .pre .1 (c .before .loop .i) (c .loo
 shared-slice-read-wide-2 : tie.Need-shared-slice-read-wide-2 Inv-loop μ-loop
 shared-slice-read-wide-2 c = omega (arith, small (c .before .before), ap length (c .before .before .before .before .before .before .pre .0), gaps-length 8)
 
-told : (c : tie.After-wide Inv-loop μ-loop) → c .wide .result ≡ fewestTracks 8 (getD (now (c .before .before .before .before .before .before .before .args .codes)) (c .before .before .before .before .loop .i) 0)
+told : (c : tie.After-wide Inv-loop μ-loop)
+    → c .wide .result ≡ fewestTracks 8
+    (getD (now (c .before .before .before .before .before .before .before .args .codes)) (c .before .before .before .before .loop .i) 0)
 told c =
     let at-loop = c .before .before .before .before in
     let entry = at-loop .before .before .before in
-    c .wide .ensures ∙ told-fewest (now (entry .args .table)) (getD (now (entry .args .codes)) (at-loop .loop .i) 0) (entry .pre .0) (small (c .before .before .before))
+    c .wide .ensures ∙ told-fewest (now (entry .args .table)) (getD (now (entry .args .codes)) (at-loop .loop .i) 0) (entry .pre .0)
+    (small (c .before .before .before))
 
 returns : tie.Need-returns Inv-loop μ-loop
 returns c =
@@ -44,15 +47,19 @@ returns c =
     let args = at-loop .before .before .before .args in
     let codes = now (args .codes) in
     let i = at-loop .loop .i in
-    sym (first-hits (wider (args .tracks) codes) (length codes) i i (c .before .before .before .before .loop-test .taken) (lt-ltb (args .tracks) (fewestTracks 8 (getD codes i 0)) (omega (arith, told (c .before), c .if1 .taken)))) ∙ at-loop .loop .inv .1
+    sym (first-hits (wider (args .tracks) codes) (length codes) i i (c .before .before .before .before .loop-test .taken)
+    (lt-ltb (args .tracks) (fewestTracks 8 (getD codes i 0)) (omega (arith, told (c .before), c .if1 .taken)))) ∙ at-loop .loop .inv .1
 
 loop-again : tie.Need-loop-again Inv-loop μ-loop
 loop-again c =
     let at-loop = c .before .before .before .before .before in
     let args = at-loop .before .before .before .args in
     let codes = now (args .codes) in
-    let i = at-loop .loop .i in
-    (omega arith, sym (first-goes (wider (args .tracks) codes) (length codes) i i (c .before .before .before .before .loop-test .taken) (le-ltb (args .tracks) (fewestTracks 8 (getD codes i 0)) (omega (arith, told (c .before), c .if1 .left)))) ∙ at-loop .loop .inv .1)
+    let i = at-loop .loop .i in (
+      omega arith,
+      sym (first-goes (wider (args .tracks) codes) (length codes) i i (c .before .before .before .before .loop-test .taken)
+          (le-ltb (args .tracks) (fewestTracks 8 (getD codes i 0)) (omega (arith, told (c .before), c .if1 .left)))) ∙ at-loop .loop .inv .1,
+    )
 
 returns-2 : tie.Need-returns-2 Inv-loop μ-loop
 returns-2 c =

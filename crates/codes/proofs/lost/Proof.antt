@@ -31,7 +31,8 @@ returns c =
     let args = c .before .args in
     let pre = c .before .pre in (
       pre .3 (args .step) (le-refl (args .step)) (omega arith),
-      subst (λ (v : ℕ). Ring (args .tracks) (set (now (args .ring)) (args .step % args .tracks) v) (args .step + 1)) (sym (pre .2)) (ring-next (args .tracks) (pre .0) (now (args .ring)) (args .step) (pre .1) (pre .3)),
+      subst (λ (v : ℕ). Ring (args .tracks) (set (now (args .ring)) (args .step % args .tracks) v) (args .step + 1)) (sym (pre .2))
+          (ring-next (args .tracks) (pre .0) (now (args .ring)) (args .step) (pre .1) (pre .3)),
     )
 
 pub lost-spec : {M : Type 1} → statement M

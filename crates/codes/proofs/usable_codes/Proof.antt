@@ -28,8 +28,13 @@ slice-write-into c = omega (arith, pow-pos (c .before .args .steps))
 
 loop-holds : tie.Need-loop-holds Inv-loop μ-loop
 loop-holds c =
-    let s = c .before in
-    (omega arith, refl, refl, ring-first (s .args .tracks) (s .pre .0 .0) (limits .tracks) (s .pre .0 .1), written-none (s .args .tracks) (s .pre .0 .0) (now (s .args .into)) (omega (arith, pow-pos (s .args .steps))))
+    let s = c .before in (
+      omega arith,
+      refl,
+      refl,
+      ring-first (s .args .tracks) (s .pre .0 .0) (limits .tracks) (s .pre .0 .1),
+      written-none (s .args .tracks) (s .pre .0 .0) (now (s .args .into)) (omega (arith, pow-pos (s .args .steps))),
+    )
 
 slice-aggregate-lost : tie.Need-slice-aggregate-lost Inv-loop μ-loop
 slice-aggregate-lost c = sym (c .before .before .loop .inv .2)
@@ -77,8 +82,14 @@ loop-again c =
     let W = s .args .tracks in
     let held = at-loop .loop .inv in
     let bits = called .before .before .power in
-    let went = called .before .before .before .before .lost in
-    (omega arith, called .with-bit .kept .1 .1 .1 .0 ∙ held .1, went .kept .0 ∙ held .2, went .ensures .1, written-next W h (s .pre .0 .0) (held .4) (bits .ensures) (went .ensures .0) (called .with-bit .ensures))
+    let went = called .before .before .before .before .lost in (
+      omega arith,
+      called .with-bit .kept .1 .1 .1 .0 ∙ held .1,
+      went .kept .0 ∙
+          held .2,
+      went .ensures .1,
+      written-next W h (s .pre .0 .0) (held .4) (bits .ensures) (went .ensures .0) (called .with-bit .ensures),
+    )
 
 same-length : tie.Need-same-length Inv-loop μ-loop
 same-length c = c .before .loop .inv .1 ∙ length-set (now (c .before .before .before .args .into)) 0 0
@@ -89,7 +100,8 @@ returns c =
     let W = s .args .tracks in
     let h = c .before .loop .step in
     let end : h ≡ s .args .steps = omega arith in
-    written-all (now (s .args .into)) (omega (arith, written-number W h (s .pre .0 .0) (c .before .loop .inv .4), F-above W h (s .pre .0 .0))) (rw end at (c .before .loop .inv .4))
+    written-all (now (s .args .into)) (omega (arith, written-number W h (s .pre .0 .0) (c .before .loop .inv .4), F-above W h (s .pre .0 .0)))
+    (rw end at (c .before .loop .inv .4))
 
 pub usable-codes-spec : {M : Type 1} → statement M
 usable-codes-spec =

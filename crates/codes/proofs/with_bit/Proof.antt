@@ -14,7 +14,8 @@ use Rattle.codes.proofs.with_bit.Tie as tie
 
 abbrev Inv-loop : tie.InvT-loop
 Inv-loop bit but codes into₀ k₀ k-end into k =
-    (k ≤ codes - but) × (length into ≡ length into₀) × Front (take codes into₀ ++ map (λ x. bit + x) (take k (drop but (take codes into₀)))) into₀ (codes + k) into
+    (k ≤ codes - but) × (length into ≡ length into₀) × Front (take codes into₀ ++ map (λ x. bit + x) (take k (drop but (take codes into₀)))) into₀
+    (codes + k) into
 
 abbrev μ-loop : tie.MeasureT-loop
 μ-loop bit but codes into₀ k₀ k-end into k = codes - but - k
@@ -35,7 +36,8 @@ front-length s = length-take-le (s .args .codes) (now (s .args .into)) (omega ar
 again-length : (s : tie.Start Inv-loop μ-loop) → length (again s) ≡ s .args .codes - s .args .but
 again-length s = omega (arith, front-length s, length-drop (s .args .but) (front s))
 
-code : (c : tie.In-loop Inv-loop μ-loop) → getD (c .before .loop .into) (c .before .before .args .but + c .before .loop .k) 0 ≡ getD (again (c .before .before)) (c .before .loop .k) 0
+code : (c : tie.In-loop Inv-loop μ-loop)
+    → getD (c .before .loop .into) (c .before .before .args .but + c .before .loop .k) 0 ≡ getD (again (c .before .before)) (c .before .loop .k) 0
 code c =
     let s = c .before .before in
     let k = c .before .loop .k in
@@ -45,14 +47,24 @@ code c =
 add-into-2 : tie.Need-add-into-2 Inv-loop μ-loop
 add-into-2 c =
     let s = c .before .before .before in
-    omega (arith, code (c .before), getD-drop (s .args .but) (front s) (c .before .before .loop .k) 0, front-length s, s .pre .2 (s .args .but + c .before .before .loop .k) (omega (arith, front-length s)))
+    omega (
+      arith,
+      code (c .before),
+      getD-drop (s .args .but) (front s) (c .before .before .loop .k) 0,
+      front-length s,
+      s .pre .2 (s .args .but + c .before .before .loop .k) (omega (arith, front-length s)),
+    )
 
 loop-again : tie.Need-loop-again Inv-loop μ-loop
 loop-again c =
     let at-loop = c .before .before in
     let s = at-loop .before in
-    let held = at-loop .loop .inv in
-    (omega arith, simp length-set (held .1), rw (code (c .before), ← add-assoc) (front-through (front s) (λ x. s .args .bit + x) (again s) (omega (arith, again-length s)) (omega arith) (held .2)))
+    let held = at-loop .loop .inv in (
+      omega arith,
+      simp length-set (held .1),
+      rw (code (c .before), ← add-assoc)
+          (front-through (front s) (λ x. s .args .bit + x) (again s) (omega (arith, again-length s)) (omega arith) (held .2)),
+    )
 
 same-length : tie.Need-same-length Inv-loop μ-loop
 same-length c = c .before .loop .inv .1

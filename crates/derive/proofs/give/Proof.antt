@@ -1,15 +1,15 @@
 -- The proof of `give`: the numbers passed have become codes.
-use mathlib.Core.List.{[], append-nil, map}
+use mathlib.Core.List.{[], map}
 use mathlib.Core.Path.{_≡_, refl, _∙_}
 use Prim.Native.Nat.{_-_, _^_, _≤_, _<_}
 use native.Mathlib.Omega.{arith}
-use lib.Seq.{drop-length, take-length}
+use lib.Seq.{take-length}
 use lib.ListN.{length, getD, take, length-set}
 use lib.Pow.{pow-mono}
 use denote.Ref.{now}
 use Rattle.yard.specs.Limits.{limits}
 use Rattle.yard.specs.Codes.{codeNumber}
-use Rattle.scan.proofs.Front.{front-none, front-through}
+use Rattle.scan.proofs.Front.{front-none, front-through, front-end}
 use Rattle.scan.specs.Front.{Front}
 use Rattle.derive.proofs.Coded.{number-fits, number-code}
 use Rattle.derive.proofs.give.Statement.{statement}
@@ -36,7 +36,12 @@ fits : (c : tie.In-loop Inv-loop μ-loop) → getD (c .before .loop .numbers) (c
 fits c =
     let called = c .before .before .before .usable-codes in
     let args = entry (c .before) .args in
-    omega (arith, number-fits (args .tracks) (args .steps) (entry (c .before) .pre .0 .0) (called .ensures) (entry (c .before) .pre .2) (c .loop-test .taken) (c .before .loop .inv .2), called .kept .1 .1 .0)
+    omega (
+      arith,
+      number-fits (args .tracks) (args .steps) (entry (c .before) .pre .0 .0) (called .ensures) (entry (c .before) .pre .2)
+          (c .loop-test .taken) (c .before .loop .inv .2),
+      called .kept .1 .1 .0,
+    )
 
 loop-again : tie.Need-loop-again Inv-loop μ-loop
 loop-again c =
@@ -46,8 +51,13 @@ loop-again c =
     let held = at-loop .loop .inv in
     let i = at-loop .loop .i in
     let q = getD (at-loop .loop .numbers) i 0 in
-    let code = number-code (args .tracks) (args .steps) (entry at-loop .pre .0 .0) (called .ensures) (entry at-loop .pre .2) (c .before .loop-test .taken) (held .2) in
-    (omega arith, length-set (at-loop .loop .numbers) i (getD (called .last .1 .1 .0) q 0) ∙ held .1, rw code (front-through [] (codeNumber (args .tracks) (args .steps)) (now (args .numbers)) (omega arith) (omega arith) (held .2)))
+    let code = number-code (args .tracks) (args .steps) (entry at-loop .pre .0 .0) (called .ensures) (entry at-loop .pre .2)
+    (c .before .loop-test .taken) (held .2) in (
+      omega arith,
+      length-set (at-loop .loop .numbers) i (getD (called .last .1 .1 .0) q 0) ∙
+          held .1,
+      rw code (front-through [] (codeNumber (args .tracks) (args .steps)) (now (args .numbers)) (omega arith) (omega arith) (held .2)),
+    )
 
 same-length : tie.Need-same-length Inv-loop μ-loop
 same-length c = c .before .loop .inv .1
@@ -56,7 +66,7 @@ returns : tie.Need-returns Inv-loop μ-loop
 returns c =
     let numbers = now (c .before .before .before .before .before .before .args .numbers) in
     let end : c .before .loop .i ≡ length numbers = omega arith in
-    c .before .loop .inv .2 .listed ∙ rw (end, take-length, drop-length, append-nil) refl
+    rw (end, take-length) at (front-end (c .before .loop .inv .2) (omega arith))
 
 pub give-spec : {M : Type 1} → statement M
 give-spec =

@@ -8,7 +8,7 @@ use Rattle.yard.specs.Answers.{verdict}
 use Rattle.yard.specs.declared.Answer.{Answer}
 use Rattle.yard.specs.Limits.{limits}
 use Rattle.intake.proofs.Passed.{counts-within}
-use Rattle.derive.specs.Plans.{nightOf}
+use Rattle.yard.specs.Night.{nightOf}
 use Rattle.derive.proofs.Answered.{given-counts, given-lists}
 use Rattle.derive.proofs.given.Statement.{statement}
 use Rattle.derive.proofs.given.Tie as tie
@@ -16,19 +16,22 @@ use Rattle.derive.proofs.given.Tie as tie
 returns : tie.Need-returns
 returns c =
     let args = c .before .before .before .before .before .args in
-    given-counts (nightOf (now (args .lengths)) (now (args .inbound)) (args .tracks) (args .room)) (args .limit) (args .size) (c .before .before .counts .ensures) (c .if1 .taken)
+    given-counts (nightOf (now (args .lengths)) (now (args .inbound)) (args .tracks) (args .room)) (args .limit) (args .size)
+    (c .before .before .counts .ensures) (c .if1 .taken)
 
 lists-requires : tie.Need-lists-requires
 lists-requires c κs =
     let args = c .before .before .before .before .before .args in
-    let within = counts-within limits (length (now (args .inbound))) (length (now (args .lengths))) (args .tracks) (args .room) (args .limit) .0 (ap (λ (a : Answer). a .number) (sym (c .before .before .counts .ensures)) ∙ c .if1 .left) in
+    let within = counts-within limits (length (now (args .inbound))) (length (now (args .lengths))) (args .tracks) (args .room) (args .limit) .0
+    (ap (λ (a : Answer). a .number) (sym (c .before .before .counts .ensures)) ∙ c .if1 .left) in
     (within .trains .1, within .cars .1)
 
 returns-2 : tie.Need-returns-2
 returns-2 c =
     let called = c .before .before .before in
     let args = called .before .before .before .before .before .args in
-    given-lists (nightOf (now (args .lengths)) (now (args .inbound)) (args .tracks) (args .room)) (args .limit) (args .size) (called .before .before .counts .ensures) (called .if1 .left)
+    given-lists (nightOf (now (args .lengths)) (now (args .inbound)) (args .tracks) (args .room)) (args .limit) (args .size)
+    (called .before .before .counts .ensures) (called .if1 .left)
     (c .unless .ensures ∙ ap₂ (λ (a b : Answer). verdict (a ∷ []) b) (c .before .before .lists .ensures) (c .before .list .ensures))
 
 pub given-spec : {M : Type 1} → statement M

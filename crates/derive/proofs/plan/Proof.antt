@@ -3,9 +3,8 @@ use mathlib.Core.Path.{_≡_}
 use native.Mathlib.Omega.{arith}
 use denote.Ref.{now}
 use borrow.Author.Needs.{needs}
-use Rattle.yard.specs.Night.{Night}
 use Rattle.yard.specs.Derived.{stepsNeeded}
-use Rattle.derive.specs.Plans.{nightOf}
+use Rattle.yard.specs.Night.{Night, nightOf}
 use Rattle.derive.proofs.Coded.{steps-needed, numbers-below, part-within, part-coded}
 use Rattle.derive.proofs.Answered.{plan-refused, plan-settled}
 use Rattle.derive.proofs.plan.Statement.{statement}
@@ -18,25 +17,29 @@ night s = nightOf (now (s .args .lengths)) (now (s .args .inbound)) (s .args .tr
 needed : (c : tie.After-fewest-steps) → c .fewest-steps .result ≡ stepsNeeded (night (c .before .before .before .before .before .before .before))
 needed c =
     let entry = c .before .before .before .before .before .before .before in
-    steps-needed (night entry) (entry .pre .lists) (entry .pre .tracks .0) (c .before .before .numbers .ensures) (c .fewest-steps .ensures)
+    steps-needed (night entry) (entry .pre .given .lists) (entry .pre .given .counts .tracks .0) (c .before .before .numbers .ensures) (c .fewest-steps .ensures)
 
 returns : tie.Need-returns
 returns c =
     let called = c .before .before in
     let entry = called .before .before .before .before .before .before .before in
-    plan-refused (night entry) (entry .pre .lists) (entry .pre .tracks .0) (needed called) (c .answer .ensures) (c .before .if1 .taken)
+    plan-refused (night entry) (entry .pre .given .lists) (entry .pre .given .counts .tracks .0) (needed called) (c .answer .ensures) (c .before .if1 .taken)
 
 give-requires : tie.Need-give-requires
 give-requires c κs =
     let called = c .before .before in
-    let entry = called .before .before .before .before .before .before .before in
-    (entry .pre .tracks, omega (arith, entry .pre .steps, c .before .if1 .left), numbers-below (night entry) (entry .pre .lists) (entry .pre .tracks .0) (called .before .before .numbers .ensures) (needed called))
+    let entry = called .before .before .before .before .before .before .before in (
+      entry .pre .given .counts .tracks,
+      omega (arith, entry .pre .given .counts .steps .1, c .before .if1 .left),
+      numbers-below (night entry) (entry .pre .given .lists) (entry .pre .given .counts .tracks .0) (called .before .before .numbers .ensures) (needed called),
+    )
 
 part-settle-end : tie.Need-part-settle-end
 part-settle-end c =
     let called = c .before .before .before .before .before in
     let entry = called .before .before .before .before .before .before .before in
-    part-within (night entry) (entry .pre .lists) (entry .pre .tracks .0) (called .before .before .numbers .ensures) (needed called) (c .before .before .give .ensures) _
+    part-within (night entry) (entry .pre .given .lists) (entry .pre .given .counts .tracks .0) (called .before .before .numbers .ensures) (needed called)
+    (c .before .before .give .ensures) _
 
 returns-2 : tie.Need-returns-2
 returns-2 c =
@@ -44,8 +47,8 @@ returns-2 c =
     let gave = settled .before .before .before .before .before in
     let called = gave .before .before .before in
     let entry = called .before .before .before .before .before .before .before in
-    plan-settled (night entry) (entry .pre .lists) (entry .pre .tracks .0) (needed called)
-    (part-coded (night entry) (entry .pre .lists) (entry .pre .tracks .0) (called .before .before .numbers .ensures) (needed called) (gave .give .ensures) _)
+    plan-settled (night entry) (entry .pre .given .lists) (entry .pre .given .counts .tracks .0) (needed called)
+    (part-coded (night entry) (entry .pre .given .lists) (entry .pre .given .counts .tracks .0) (called .before .before .numbers .ensures) (needed called) (gave .give .ensures) _)
     (gave .before .before .if1 .left) (settled .settle .ensures)
 
 pub plan-spec : {M : Type 1} → statement M

@@ -13,13 +13,16 @@ use Rattle.derive.proofs.settle.Tie as tie
 returns : tie.Need-returns
 returns c =
     let args = c .before .before .before .before .before .before .before .args in
-    settles-full (args .room) (args .steps) (now (args .derived)) (now (args .codes)) (c .before .before .before .first-above .ensures) (c .answer .ensures) (c .before .before .if1 .taken) (c .before .pull .ensures)
+    settles-full (args .room) (args .steps) (now (args .derived)) (now (args .codes)) (c .before .before .before .first-above .ensures)
+    (c .answer .ensures) (c .before .before .if1 .taken) (c .before .pull .ensures)
 
 returns-2 : tie.Need-returns-2
 returns-2 c =
     let called = c .before .before .before .before in
     let args = called .before .before .before .before .before .before .before .args in
-    settles-fits (args .room) (args .steps) (now (args .derived)) (now (args .codes)) (called .before .before .before .first-above .ensures) (c .answer2 .ensures) (called .before .before .if1 .left) (c .before .passes .ensures) (called .copy .ensures ∙ ap (λ (l : List ℕ). l ++ drop (length (now (args .derived))) (now (args .codes))) (take-length (now (args .derived))))
+    settles-fits (args .room) (args .steps) (now (args .derived)) (now (args .codes)) (called .before .before .before .first-above .ensures)
+    (c .answer2 .ensures) (called .before .before .if1 .left) (c .before .passes .ensures)
+    (called .copy .ensures ∙ ap (λ (l : List ℕ). l ++ drop (length (now (args .derived))) (now (args .codes))) (take-length (now (args .derived))))
 
 pub settle-spec : {M : Type 1} → statement M
 settle-spec =

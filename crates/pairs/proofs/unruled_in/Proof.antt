@@ -1,6 +1,6 @@
 -- The proof of `unruled_in`: what is left of the search finds what the whole search finds.
 use mathlib.Core.Path.{_≡_, refl, sym, _∙_}
-use Prim.Native.Nat.{ℕ, _+_, _-_, _≤_}
+use Prim.Native.Nat.{_+_, _-_, _≤_}
 use denote.Ref.{now}
 use native.Mathlib.Omega.{arith}
 use Rattle.yard.specs.Words.{first}
@@ -10,7 +10,8 @@ use Rattle.pairs.proofs.unruled_in.Statement.{statement}
 use Rattle.pairs.proofs.unruled_in.Tie as tie
 
 abbrev Inv-loop : tie.InvT-loop
-Inv-loop places codes before end j₀ j = (before + 1 ≤ j) × (j ≤ end) × (first (unruledBy places codes) (end - j) j ≡ first (unruledBy places codes) (end - (before + 1)) (before + 1))
+Inv-loop places codes before end j₀ j =
+    (before + 1 ≤ j) × (j ≤ end) × (first (unruledBy places codes) (end - j) j ≡ first (unruledBy places codes) (end - (before + 1)) (before + 1))
 
 abbrev μ-loop : tie.MeasureT-loop
 μ-loop places codes before end j₀ j = end - j
@@ -31,7 +32,8 @@ returns c =
     let at-loop = c .before .before .before in
     let args = at-loop .before .before .before .args in
     let j = at-loop .loop .j in
-    sym (first-hits (unruledBy (now (args .places)) (now (args .codes))) (args .end) j j (c .before .before .loop-test .taken) (sym (c .before .unruled .ensures) ∙ c .if1 .taken)) ∙ at-loop .loop .inv .2
+    sym (first-hits (unruledBy (now (args .places)) (now (args .codes))) (args .end) j j (c .before .before .loop-test .taken)
+    (sym (c .before .unruled .ensures) ∙ c .if1 .taken)) ∙ at-loop .loop .inv .2
 
 add-j-2 : tie.Need-add-j-2 Inv-loop μ-loop
 add-j-2 c = omega arith
@@ -43,8 +45,13 @@ loop-again : tie.Need-loop-again Inv-loop μ-loop
 loop-again c =
     let at-loop = c .before .before .before in
     let args = at-loop .before .before .before .args in
-    let j = at-loop .loop .j in
-    (omega arith, omega arith, sym (first-goes (unruledBy (now (args .places)) (now (args .codes))) (args .end) j j (c .before .before .loop-test .taken) (sym (c .before .unruled .ensures) ∙ c .if1 .left)) ∙ at-loop .loop .inv .2)
+    let j = at-loop .loop .j in (
+      omega arith,
+      omega arith,
+      sym
+          (first-goes (unruledBy (now (args .places)) (now (args .codes))) (args .end) j j (c .before .before .loop-test .taken)
+          (sym (c .before .unruled .ensures) ∙ c .if1 .left)) ∙ at-loop .loop .inv .2,
+    )
 
 returns-2 : tie.Need-returns-2 Inv-loop μ-loop
 returns-2 c =

@@ -60,7 +60,8 @@ returns : tie.Need-returns Inv-loop μ-loop
 returns c =
     let args = c .before .before .before .before .args in
     let end : c .before .loop .j ≡ args .end = omega arith in
-    c .before .loop .inv .3 ∙ ap (λ (n : ℕ). total (λ j. tally (unruledBy (now (args .places)) (now (args .codes)) j)) (upFrom (args .before + 1) (n - (args .before + 1)))) end
+    c .before .loop .inv .3 ∙ ap (λ (n : ℕ). total (λ j. tally (unruledBy (now (args .places)) (now (args .codes)) j))
+    (upFrom (args .before + 1) (n - (args .before + 1)))) end
 
 pub unruled-pairs-spec : {M : Type 1} → statement M
 unruled-pairs-spec =

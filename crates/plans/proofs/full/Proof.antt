@@ -1,11 +1,10 @@
 -- The proof of `full`: the step that the search found, or none.
-use mathlib.Core.Path.{_≡_, refl, sym, ap, ap₂, _∙_}
+use mathlib.Core.Path.{sym, ap, ap₂, _∙_}
 use mathlib.Core.Bool.{Bool}
 use Prim.Native.Nat.{ℕ}
 use denote.Ref.{now}
 use native.Mathlib.Omega.{arith}
 use borrow.Author.Tests.{le-leb, lt-leb}
-use Rattle.yard.specs.declared.Answer.{Answer}
 use Rattle.yard.specs.Answers.{says, test}
 use Rattle.sorting.specs.Sums.{pullOf, firstAbove}
 use borrow.Author.Needs.{needs}
@@ -39,7 +38,8 @@ returns-2 c =
     let args = c .before .before .before .before .args in
     let codes = now (args .codes) in
     let above = firstAbove (args .room) codes (args .steps) in
-    c .answer2 .ensures ∙ sym (ap (λ (b : Bool). test b (says 6 above (pullOf codes above))) (le-leb (args .steps) above (omega (arith, c .before .before .first-above .ensures))))
+    c .answer2 .ensures ∙ sym (ap (λ (b : Bool). test b (says 6 above (pullOf codes above)))
+    (le-leb (args .steps) above (omega (arith, c .before .before .first-above .ensures))))
 
 pub full-spec : {M : Type 1} → statement M
 full-spec =

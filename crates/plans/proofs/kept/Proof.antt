@@ -30,7 +30,8 @@ returns-2 : tie.Need-returns-2
 returns-2 c =
     let at = c .before .before .before .before in
     let codes = now (at .args .codes) in
-    c .answer .ensures ∙ sym (never-waits (at .args .tracks) (at .args .steps) codes (at .pre .0) (at .pre .1) (at .pre .2) (omega (arith, c .before .if1 .left, c .before .before .first-wider .ensures)))
+    c .answer .ensures ∙ sym (never-waits (at .args .tracks) (at .args .steps) codes (at .pre .0) (at .pre .1) (at .pre .2)
+    (omega (arith, c .before .if1 .left, c .before .before .first-wider .ensures)))
 
 pub kept-spec : {M : Type 1} → statement M
 kept-spec =

@@ -8,7 +8,6 @@ use native.Mathlib.Numerals.{add-one}
 use native.Mathlib.Omega.{arith}
 use lib.ListN.{length}
 use borrow.Author.Tests.{lt-leb, le-leb}
-use Rattle.yard.specs.declared.Answer.{Answer}
 use Rattle.yard.specs.Answers.{says, test, verdict}
 use Rattle.sorting.specs.Sums.{setBelow, fullestOf}
 use Rattle.plans.specs.Closed.{firstPair}

@@ -1,12 +1,10 @@
 -- The proof of `placed`: the lists, then each buffer.
 use mathlib.Core.Path.{_∙_}
-use mathlib.Core.List.{List, [], _∷_}
-use Prim.Native.Nat.{ℕ}
+use mathlib.Core.List.{[], _∷_}
 use denote.Ref.{now}
 use native.Mathlib.Nat.{suc-ne-zero}
 use lib.Dec.{leb}
 use lib.ListN.{length}
-use Rattle.yard.specs.declared.Answer.{Answer}
 use Rattle.yard.specs.Answers.{says, listTest}
 use Rattle.yard.proofs.Verdict.{stops, goes-on, stops-all, goes-on-all, last-is}
 use Rattle.plans.specs.Closed.{givenTests}

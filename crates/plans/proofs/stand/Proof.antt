@@ -1,6 +1,5 @@
 -- The proof of `stand`: the order and the tracks are what the places are worked out from.
 use denote.Ref.{now}
-use native.Mathlib.Omega.{arith}
 use borrow.Author.Needs.{needs}
 use Rattle.plans.proofs.Stages.{keyed, order-within, order-part, standable, placed}
 use Rattle.plans.proofs.stand.Statement.{statement}

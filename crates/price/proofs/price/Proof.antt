@@ -27,7 +27,8 @@ refused-requires c κs = search needs
 returns : tie.Need-returns
 returns c =
     let a = c .before .before .args in
-    refused-prices (a .steps) (a .passes) (a .timings) (omega arith) (c .refused .ensures) (stepsOut limits (a .steps) (a .passes) (a .timings) (c .before .if1 .taken))
+    refused-prices (a .steps) (a .passes) (a .timings) (omega arith) (c .refused .ensures)
+    (stepsOut limits (a .steps) (a .passes) (a .timings) (c .before .if1 .taken))
 
 refused-requires-2 : tie.Need-refused-requires-2
 refused-requires-2 c κs = search needs
@@ -35,7 +36,8 @@ refused-requires-2 c κs = search needs
 returns-2 : tie.Need-returns-2
 returns-2 c =
     let a = c .before .before .before .args in
-    refused-prices (a .steps) (a .passes) (a .timings) (omega arith) (c .refused2 .ensures) (passesOut limits (a .steps) (a .passes) (a .timings) (c .before .before .if1 .left) (c .before .if2 .taken))
+    refused-prices (a .steps) (a .passes) (a .timings) (omega arith) (c .refused2 .ensures)
+    (passesOut limits (a .steps) (a .passes) (a .timings) (c .before .before .if1 .left) (c .before .if2 .taken))
 
 timing-of-requires : tie.Need-timing-of-requires
 timing-of-requires c κs = search needs
@@ -53,8 +55,10 @@ returns-3 : tie.Need-returns-3
 returns-3 c =
     let counts = c .before .before .before .before in
     let a = counts .before .before .args in
-    let refusal = refusedTiming (timing (a .timings .pull)) (sixteenths (a .timings .pull)) (sym (c .before .enum-told .given .1) ∙ c .before .before .before .timing-of .ensures) in
-    refused-prices (a .steps) (a .passes) (a .timings) (omega arith) (c .refused3 .ensures) (pullOut limits (a .steps) (a .passes) (a .timings) (counts .before .if1 .left) (counts .if2 .left) refusal)
+    let refusal = refusedTiming (timing (a .timings .pull)) (sixteenths (a .timings .pull))
+    (sym (c .before .enum-told .given .1) ∙ c .before .before .before .timing-of .ensures) in
+    refused-prices (a .steps) (a .passes) (a .timings) (omega arith) (c .refused3 .ensures)
+    (pullOut limits (a .steps) (a .passes) (a .timings) (counts .before .if1 .left) (counts .if2 .left) refusal)
 
 timing-of-requires-2 : tie.Need-timing-of-requires-2
 timing-of-requires-2 c κs = search needs
@@ -72,23 +76,28 @@ refused-requires-4 c κs = search needs
 abbrev start : tie.After-pull-worth → tie.Start
 start c = c .before .before .before .before .before
 
-pullAllowed : (c : tie.After-pull-worth) → (timing (start c .args .timings .pull) ≡ true) × (c .pull-worth .given .0 .0 ≡ sixteenths (start c .args .timings .pull))
+pullAllowed : (c : tie.After-pull-worth)
+    → (timing (start c .args .timings .pull) ≡ true) × (c .pull-worth .given .0 .0 ≡ sixteenths (start c .args .timings .pull))
 pullAllowed c =
-    allowed (timing (start c .args .timings .pull)) (c .pull-worth .given .0 .0) (sixteenths (start c .args .timings .pull)) (sym (c .pull-worth .given .1) ∙ c .before .before .timing-of .ensures)
+    allowed (timing (start c .args .timings .pull)) (c .pull-worth .given .0 .0) (sixteenths (start c .args .timings .pull))
+    (sym (c .pull-worth .given .1) ∙ c .before .before .timing-of .ensures)
 
 returns-4 : tie.Need-returns-4
 returns-4 c =
     let bound = c .before .before .before .before .before in
     let counts = bound .before .before .before in
     let a = start bound .args in
-    let refusal = refusedTiming (timing (a .timings .push)) (sixteenths (a .timings .push)) (sym (c .before .enum-told2 .given .1) ∙ c .before .before .before .timing-of2 .ensures) in
-    refused-prices (a .steps) (a .passes) (a .timings) (omega arith) (c .refused4 .ensures) (pushOut limits (a .steps) (a .passes) (a .timings) (counts .before .if1 .left) (counts .if2 .left) (pullAllowed bound .0) refusal)
+    let refusal = refusedTiming (timing (a .timings .push)) (sixteenths (a .timings .push))
+    (sym (c .before .enum-told2 .given .1) ∙ c .before .before .before .timing-of2 .ensures) in
+    refused-prices (a .steps) (a .passes) (a .timings) (omega arith) (c .refused4 .ensures)
+    (pushOut limits (a .steps) (a .passes) (a .timings) (counts .before .if1 .left) (counts .if2 .left) (pullAllowed bound .0) refusal)
 
 -- where the push's are bound too: the same of the push, so all tests hold and the sum is the price's sixteenths
 abbrev bound : tie.After-push-worth → tie.After-pull-worth
 bound c = c .before .before .before .before
 
-pushAllowed : (c : tie.After-push-worth) → (timing (start (bound c) .args .timings .push) ≡ true) × (c .push-worth .given .0 .0 ≡ sixteenths (start (bound c) .args .timings .push))
+pushAllowed : (c : tie.After-push-worth)
+    → (timing (start (bound c) .args .timings .push) ≡ true) × (c .push-worth .given .0 .0 ≡ sixteenths (start (bound c) .args .timings .push))
 pushAllowed c =
     let push = start (bound c) .args .timings .push in
     allowed (timing push) (c .push-worth .given .0 .0) (sixteenths push) (sym (c .push-worth .given .1) ∙ c .before .before .timing-of2 .ensures)
@@ -96,9 +105,16 @@ pushAllowed c =
 allHold : (c : tie.After-push-worth) → Priceable limits (start (bound c) .args .steps) (start (bound c) .args .passes) (start (bound c) .args .timings)
 allHold c =
     let counts = bound c .before .before .before in
-    record { stepsIn = (omega arith, counts .before .if1 .left); passesIn = (omega arith, counts .if2 .left); pullIn = pullAllowed (bound c) .0; pushIn = pushAllowed c .0 }
+    record {
+      stepsIn = (omega arith, counts .before .if1 .left);
+      passesIn = (omega arith, counts .if2 .left);
+      pullIn = pullAllowed (bound c) .0;
+      pushIn = pushAllowed c .0;
+    }
 
-worth-is : (c : tie.After-push-worth) → start (bound c) .args .steps * bound c .pull-worth .given .0 .0 + start (bound c) .args .passes * c .push-worth .given .0 .0 ≡ priceWorth (start (bound c) .args .steps) (start (bound c) .args .passes) (start (bound c) .args .timings)
+worth-is : (c : tie.After-push-worth)
+    → start (bound c) .args .steps * bound c .pull-worth .given .0 .0 + start (bound c) .args .passes * c .push-worth .given .0 .0 ≡ priceWorth
+    (start (bound c) .args .steps) (start (bound c) .args .passes) (start (bound c) .args .timings)
 worth-is c = λ i. start (bound c) .args .steps * pullAllowed (bound c) .1 i + start (bound c) .args .passes * pushAllowed c .1 i
 
 done-requires : tie.Need-done-requires
@@ -109,7 +125,8 @@ done-requires c κs =
 returns-5 : tie.Need-returns-5
 returns-5 c =
     let a = start (bound (c .before .before)) .args in
-    done-prices (a .steps) (a .passes) (a .timings) (c .done .ensures ∙ ap (λ (n : ℕ). priced (says 0 0 0) (seconds n)) (worth-is (c .before .before))) (allHold (c .before .before))
+    done-prices (a .steps) (a .passes) (a .timings)
+    (c .done .ensures ∙ ap (λ (n : ℕ). priced (says 0 0 0) (seconds n)) (worth-is (c .before .before))) (allHold (c .before .before))
 
 pub price-spec : {M : Type 1} → statement M
 price-spec =

@@ -39,14 +39,16 @@ float-to-bits-if3-2 c = scaled-number (c .before .before .before .before .args .
 returns : tie.Need-returns
 unfolding ofBits
 returns c = let start = c .before .before .before .before .before in
-    accepted (start .args .x) (passes _ (start .good .0 .1)) Sixteenths NotAllowed (c .before .before .truncating-f64-to-u64 .result) (c .before .seconds .result)
+    accepted (start .args .x) (passes _ (start .good .0 .1)) Sixteenths NotAllowed (c .before .before .truncating-f64-to-u64 .result)
+    (c .before .seconds .result)
     (c .before .before .truncating-f64-to-u64 .ensures) (c .before .seconds .ensures)
     (passed (c .before .before .before)) (c .if3 .taken)
 
 returns-2 : tie.Need-returns-2
 unfolding ofBits
 returns-2 c = let start = c .before .before .before .before .before in
-    unlike-bits (start .args .x) (passes _ (start .good .0 .1)) Sixteenths NotAllowed (c .before .before .truncating-f64-to-u64 .result) (c .before .seconds .result)
+    unlike-bits (start .args .x) (passes _ (start .good .0 .1)) Sixteenths NotAllowed (c .before .before .truncating-f64-to-u64 .result)
+    (c .before .seconds .result)
     (c .before .before .truncating-f64-to-u64 .ensures) (c .before .seconds .ensures) (c .if3 .left)
 
 returns-3 : tie.Need-returns-3

@@ -30,7 +30,8 @@ returns c =
     let at-loop = c .before .before .before in
     let args = at-loop .before .before .args in
     let step = at-loop .loop .step in
-    sym (first-hits (above (args .room) (now (args .codes))) (args .steps) step step (c .before .before .loop-test .taken) (lt-ltb (args .room) (pullOf (now (args .codes)) step) (omega arith))) ∙ at-loop .loop .inv .1
+    sym (first-hits (above (args .room) (now (args .codes))) (args .steps) step step (c .before .before .loop-test .taken)
+    (lt-ltb (args .room) (pullOf (now (args .codes)) step) (omega arith))) ∙ at-loop .loop .inv .1
 
 add-step : tie.Need-add-step Inv-loop μ-loop
 add-step c = omega arith
@@ -42,8 +43,11 @@ loop-again : tie.Need-loop-again Inv-loop μ-loop
 loop-again c =
     let at-loop = c .before .before .before in
     let args = at-loop .before .before .args in
-    let step = at-loop .loop .step in
-    (omega arith, sym (first-goes (above (args .room) (now (args .codes))) (args .steps) step step (c .before .before .loop-test .taken) (le-ltb (args .room) (pullOf (now (args .codes)) step) (omega arith))) ∙ at-loop .loop .inv .1)
+    let step = at-loop .loop .step in (
+      omega arith,
+      sym (first-goes (above (args .room) (now (args .codes))) (args .steps) step step (c .before .before .loop-test .taken)
+          (le-ltb (args .room) (pullOf (now (args .codes)) step) (omega arith))) ∙ at-loop .loop .inv .1,
+    )
 
 returns-2 : tie.Need-returns-2 Inv-loop μ-loop
 returns-2 c =

@@ -1,7 +1,7 @@
 -- The proof of `low`: a code of 16 bits is below 2 to the 16, and any lower power is a divisor.
 use mathlib.Core.Path.{_≡_, sym, ap, _∙_}
-use Prim.Native.Nat.{ℕ, _%_, _*_, _^_, _≤_, _<_}
-use native.Mathlib.Nat.{one-mul, mod-eq-of-lt, lt-of-lt-of-le}
+use Prim.Native.Nat.{ℕ, _%_, _*_, _^_, _≤_}
+use native.Mathlib.Nat.{one-mul, mod-eq-of-lt}
 use native.Mathlib.Omega.{arith}
 use lib.Arith.{lt-of-le-ne}
 use lib.Pow.{pow-pos, pow-lt}

@@ -4,7 +4,7 @@ use mathlib.Core.Path.{_≡_, ap}
 use Prim.Native.Nat.{_+_, _-_, _*_, _%_, _^_, _≤_}
 use denote.Ref.{now}
 use native.Mathlib.Omega.{arith}
-use lib.ListN.{length, getD, drop}
+use lib.ListN.{length, drop}
 use Rattle.sorting.specs.Sums.{setBelow}
 use Rattle.scan.proofs.Running.{total-next, total-end}
 use Rattle.sorting.proofs.passes.Statement.{statement}
@@ -46,7 +46,12 @@ loop-again c =
     let stage = at-loop .before .before .args .stage in
     let codes = now (at-loop .before .before .args .codes) in
     let i = at-loop .loop .i in
-    omega (arith, total-next (λ x. ones (x % 2 ^ stage)) codes i (c .before .before .before .loop-test .taken), c .ones .ensures .0, ap ones (c .before .low .ensures))
+    omega (
+      arith,
+      total-next (λ x. ones (x % 2 ^ stage)) codes i (c .before .before .before .loop-test .taken),
+      c .ones .ensures .0,
+      ap ones (c .before .low .ensures),
+    )
 
 cast-result : tie.Need-cast-result Inv-loop μ-loop
 cast-result c = omega arith
@@ -55,7 +60,11 @@ add-result : tie.Need-add-result Inv-loop μ-loop
 add-result c = omega arith
 
 returns : tie.Need-returns Inv-loop μ-loop
-returns c = omega (arith, total-end (λ x. ones (x % 2 ^ c .before .before .before .args .stage)) (now (c .before .before .before .args .codes)) (c .before .loop .i) (c .loop-test .left))
+returns c = omega (
+  arith,
+  total-end (λ x. ones (x % 2 ^ c .before .before .before .args .stage)) (now (c .before .before .before .args .codes))
+      (c .before .loop .i) (c .loop-test .left),
+)
 
 pub passes-spec : {M : Type 1} → statement M
 passes-spec =

@@ -52,7 +52,11 @@ cast-result : tie.Need-cast-result Inv-loop μ-loop
 cast-result c = omega arith
 
 returns : tie.Need-returns Inv-loop μ-loop
-returns c = omega (arith, total-end (λ x. tally (bit (c .before .before .before .args .step) x)) (now (c .before .before .before .args .codes)) (c .before .loop .i) (c .loop-test .left))
+returns c = omega (
+  arith,
+  total-end (λ x. tally (bit (c .before .before .before .args .step) x)) (now (c .before .before .before .args .codes))
+      (c .before .loop .i) (c .loop-test .left),
+)
 
 pub pull-spec : {M : Type 1} → statement M
 pull-spec =

@@ -64,7 +64,8 @@ add-standing : tie.Need-add-standing Inv-loop μ-loop
 add-standing c =
     let at-loop = c .before .before .before in
     let at = at-loop .before in
-    let fits = count-fits (now (at .args .order)) (now (at .args .on)) (now (at .args .at)) (at .pre) (c .before .before .loop-test .taken) (at-loop .loop .inv) in
+    let fits = count-fits (now (at .args .order)) (now (at .args .on)) (now (at .args .at)) (at .pre) (c .before .before .loop-test .taken)
+    (at-loop .loop .inv) in
     omega (arith, fits)
 
 loop-again : tie.Need-loop-again Inv-loop μ-loop

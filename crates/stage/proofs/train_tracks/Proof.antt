@@ -1,5 +1,5 @@
 -- The proof of `train_tracks`: the cars passed have their tracks, and the rest stays.
-use mathlib.Core.Path.{_≡_, refl, ap, _∙_}
+use mathlib.Core.Path.{_≡_, refl, _∙_}
 use mathlib.Core.List.{[], map}
 use Prim.Native.Nat.{ℕ, _-_, _≤_}
 use denote.Ref.{now}
@@ -51,7 +51,7 @@ returns c =
     let at-loop = c .before in
     let codes = now (start at-loop .args .codes) in
     let end : at-loop .loop .i ≡ length codes = omega arith in
-    rw (end, take-length) at (front-end (omega (arith, start at-loop .pre .0)) (at-loop .loop .inv .2))
+    rw (end, take-length) at (front-end (at-loop .loop .inv .2) (omega (arith, start at-loop .pre .0)))
 
 pub train-tracks-spec : {M : Type 1} → statement M
 train-tracks-spec =

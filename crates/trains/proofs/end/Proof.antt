@@ -1,7 +1,6 @@
 -- The proof of `end`: no train ends behind the last car.
 use denote.Ref.{now}
 use native.Mathlib.Omega.{arith}
-use Rattle.trains.specs.Walk.{Ends}
 use Rattle.trains.proofs.Walk.{ends-here}
 use Rattle.trains.proofs.end.Statement.{statement}
 use Rattle.trains.proofs.end.Tie as tie

@@ -1,5 +1,5 @@
 -- The proof of `places`: the cars passed have their place, and the rest stays.
-use mathlib.Core.Path.{_≡_, refl, sym, ap, _∙_, subst}
+use mathlib.Core.Path.{refl, subst}
 use mathlib.Core.Logic.{inl, inr, ⊎-elim}
 use Prim.Native.Nat.{ℕ, _+_, _-_, _≤_, _<_}
 use denote.Ref.{now}
@@ -12,7 +12,8 @@ use Rattle.trains.proofs.places.Statement.{statement}
 use Rattle.trains.proofs.places.Tie as tie
 
 abbrev Inv-loop : tie.InvT-loop
-Inv-loop inbound into₀ i₀ i-end into i = (i ≤ length inbound) × Filled (λ car. place car inbound) (length inbound) (λ car. Within 1 (length inbound) car × (place car inbound < i)) into₀ into
+Inv-loop inbound into₀ i₀ i-end into i =
+    (i ≤ length inbound) × Filled (λ car. place car inbound) (length inbound) (λ car. Within 1 (length inbound) car × (place car inbound < i)) into₀ into
 
 abbrev μ-loop : tie.MeasureT-loop
 μ-loop inbound into₀ i₀ i-end into i = length inbound - i
@@ -68,8 +69,11 @@ loop-again c =
     let car = getD inbound i 0 in
     let given = place-at inbound (at-loop .before .pre .2) i (c .before .loop-test .taken) in (
       omega arith,
-      subst (λ (k : ℕ). Filled (λ car. place car inbound) (length inbound) (λ car. Within 1 (length inbound) car × (place car inbound < i + 1)) (now (at-loop .before .args .into)) (set (at-loop .loop .into) (car - 1) k)) given
-          (filled-next (λ car. place car inbound) (length inbound) (λ car. Within 1 (length inbound) car × (place car inbound < i)) (λ car. Within 1 (length inbound) car × (place car inbound < i + 1)) (now (at-loop .before .args .into)) (at-loop .loop .into) car (at-loop .before .pre .0) w
+      subst (λ (k : ℕ). Filled (λ car. place car inbound) (length inbound) (λ car. Within 1 (length inbound) car × (place car inbound < i + 1))
+          (now (at-loop .before .args .into)) (set (at-loop .loop .into) (car - 1) k)) given
+          (filled-next (λ car. place car inbound) (length inbound) (λ car. Within 1 (length inbound) car × (place car inbound < i))
+          (λ car. Within 1 (length inbound) car × (place car inbound < i + 1)) (now (at-loop .before .args .into)) (at-loop .loop .into) car
+          (at-loop .before .pre .0) w
           (λ other m. ⊎-elim (λ e. inl e) (λ l. inr (m .0, l)) (place-split inbound (at-loop .before .pre .2) i other (m .0) (m .1)))
           (at-loop .loop .inv .1)),
     )
@@ -81,7 +85,9 @@ returns : tie.Need-returns Inv-loop μ-loop
 returns c =
     let at = c .before .before in
     let inbound = now (at .args .inbound) in
-    filled-all (λ car. place car inbound) (length inbound) (λ car. Within 1 (length inbound) car × (place car inbound < c .before .loop .i)) (now (at .args .into)) (c .before .loop .into) (at .pre .0) (λ car w. (w, omega (arith, place-below inbound (at .pre .2) car w))) (c .before .loop .inv .1)
+    filled-all (λ car. place car inbound) (length inbound) (λ car. Within 1 (length inbound) car × (place car inbound < c .before .loop .i))
+    (now (at .args .into)) (c .before .loop .into) (at .pre .0) (λ car w. (w, omega (arith, place-below inbound (at .pre .2) car w)))
+    (c .before .loop .inv .1)
 
 pub places-spec : {M : Type 1} → statement M
 places-spec =

@@ -1,10 +1,9 @@
 -- The proof of `first_early`: what is left of the search over steps, then cars, finds what the whole finds.
 use mathlib.Core.Path.{_≡_, refl, sym, _∙_}
-use Prim.Native.Nat.{_-_, _≤_, _<_}
+use Prim.Native.Nat.{_-_, _≤_}
 use denote.Ref.{now}
 use native.Mathlib.Omega.{arith}
 use lib.ListN.{length}
-use borrow.Author.Needs.{needs}
 use Rattle.sorting.specs.declared.early.Early.the-variants.{Never}
 use Rattle.sorting.proofs.EarlyLeft.{StepsLeft, CarsLeft, steps-start, cars-start, cars-goes, steps-goes, steps-ends, found}
 use Rattle.sorting.proofs.early.first_early.Statement.{statement}
@@ -51,8 +50,12 @@ loop-less c = omega arith
 loop-again : tie.Need-loop-again Inv-loop μ-loop Inv-search μ-search
 loop-again c =
     let at-loop = c .before .before .before .before in
-    let args = at-loop .before .before .before .before .args in
-    (at-loop .loop .inv .0, omega arith, cars-goes (args .tracks) (args .steps) (now (args .codes)) (at-loop .before .before .search .step) (at-loop .loop .i) (c .before .before .before .loop-test .taken) (at-loop .loop .inv .2) (sym (c .before .waits .ensures) ∙ c .if1 .left))
+    let args = at-loop .before .before .before .before .args in (
+      at-loop .loop .inv .0,
+      omega arith,
+      cars-goes (args .tracks) (args .steps) (now (args .codes)) (at-loop .before .before .search .step) (at-loop .loop .i)
+          (c .before .before .before .loop-test .taken) (at-loop .loop .inv .2) (sym (c .before .waits .ensures) ∙ c .if1 .left),
+    )
 
 add-step : tie.Need-add-step Inv-loop μ-loop Inv-search μ-search
 add-step c = omega arith
@@ -63,20 +66,26 @@ search-less c = omega arith
 search-again : tie.Need-search-again Inv-loop μ-loop Inv-search μ-search
 search-again c =
     let at-search = c .before .before .before in
-    let args = at-search .before .before .args in
-    (c .before .loop .inv .0, omega arith, steps-goes (args .tracks) (args .steps) (now (args .codes)) (at-search .search .step) (c .before .loop .i) (c .before .before .search-test .taken) (c .loop-test .left) (c .before .loop .inv .1) (at-search .search .inv .2) (c .before .loop .inv .2))
+    let args = at-search .before .before .args in (
+      c .before .loop .inv .0,
+      omega arith,
+      steps-goes (args .tracks) (args .steps) (now (args .codes)) (at-search .search .step) (c .before .loop .i)
+          (c .before .before .search-test .taken) (c .loop-test .left) (c .before .loop .inv .1) (at-search .search .inv .2) (c .before .loop .inv .2),
+    )
 
 returns : tie.Need-returns Inv-loop μ-loop Inv-search μ-search
 returns c =
     let args = c .before .before .before .args in
-    c .before .search .inv .0 ∙ steps-ends (args .tracks) (args .steps) (now (args .codes)) (c .before .search .step) (c .search-test .left) (c .before .search .inv .2)
+    c .before .search .inv .0 ∙ steps-ends (args .tracks) (args .steps) (now (args .codes)) (c .before .search .step) (c .search-test .left)
+    (c .before .search .inv .2)
 
 returns-2 : tie.Need-returns-2 Inv-loop μ-loop Inv-search μ-search
 returns-2 c =
     let at-loop = c .before .before .before .before in
     let at-search = at-loop .before .before in
     let args = at-search .before .before .args in
-    found (args .tracks) (args .steps) (now (args .codes)) (at-search .search .step) (at-loop .loop .i) (at-loop .before .search-test .taken) (c .before .before .before .loop-test .taken) (at-search .search .inv .2) (at-loop .loop .inv .2) (sym (c .before .waits .ensures) ∙ c .if1 .taken)
+    found (args .tracks) (args .steps) (now (args .codes)) (at-search .search .step) (at-loop .loop .i) (at-loop .before .search-test .taken)
+    (c .before .before .before .loop-test .taken) (at-search .search .inv .2) (at-loop .loop .inv .2) (sym (c .before .waits .ensures) ∙ c .if1 .taken)
 
 pub first-early-spec : {M : Type 1} → statement M
 first-early-spec =

@@ -1,8 +1,7 @@
 -- The proof of `next_step`: the zeros below the lowest set bit are counted.
-use mathlib.Core.Path.{_≡_, refl, sym, ap, _∙_}
-use Prim.Native.Nat.{ℕ, _+_, _/_, _^_, min, _≤_}
+use Prim.Native.Nat.{_/_, _^_}
 use native.Mathlib.Omega.{arith}
-use lib.Count.{trailingZeros, trailing-le}
+use lib.Count.{trailing-le}
 use Rattle.sorting.proofs.NextStep.{next-zeros}
 use borrow.Author.Needs.{needs}
 use Rattle.sorting.proofs.early.next_step.Statement.{statement}
