@@ -2,12 +2,13 @@
 use Prim.Native.Nat.{ℕ, zero, suc, _+_, _-_, _≤_, _<_, min}
 use mathlib.Core.Path.{_≡_, refl, sym, ap, ap₂, _∙_}
 use mathlib.Core.List.{List, [], _∷_, _++_, append-assoc, append-nil}
-use native.Mathlib.Nat.{add-sub-of-le}
 use native.Mathlib.Numerals.{add-one}
 use native.Mathlib.Omega.{arith}
-use lib.ListN.{length, getD, take, drop, set, length-append, length-take, length-drop, length-set, take-append-drop}
-use lib.Seq.{length-take-le, take-all, take-suc, take-suc-set, take-append-le, take-append-seam, drop-append-seam, drop-drop, drop-set-lt}
+use lib.ListN.{length, getD, take, drop, set, length-append, length-take, length-set, take-append-drop}
+use lib.Seq.{length-take-le, take-all, take-suc, take-suc-set, take-append-le, drop-drop, drop-set-lt}
 use Rattle.io.specs.Counts.{Counts}
+use Rattle.yard.specs.Answers.{onto}
+use Rattle.yard.proofs.Fronts.{front-taken, front-left, front-long}
 use Rattle.lines.specs.Text.{Adds}
 
 -- what is left off once need not be looked at again
@@ -54,16 +55,15 @@ adds-full text at piece e =
 pub adds-front : {after : List ℕ} {r : ℕ} (piece before : List ℕ)
     → length piece ≤ length before
     → r ≡ length piece
-    → after ≡ piece ++ drop (length piece) before
+    → after ≡ onto piece before
     → Adds piece before 0 r after
-adds-front {after} {r} piece before fits end put =
-    let size : length after ≡ length before =
-    ap length put ∙ length-append piece (drop (length piece) before) ∙ ap (λ k. length piece + k) (length-drop (length piece) before) ∙ add-sub-of-le fits in
+adds-front piece before fits end put =
+    let size = front-long piece before put fits in
     record {
       size = size;
       within = omega (arith, end, size, fits);
-      text = ap₂ take end put ∙ take-append-seam piece (drop (length piece) before) ∙ sym (take-all (length before) piece fits);
-      rest = ap₂ drop end put ∙ drop-append-seam piece (drop (length piece) before) ∙ ap (λ k. drop k before) (sym end);
+      text = front-taken piece before put (sym end) ∙ sym (take-all (length before) piece fits);
+      rest = front-left piece before put (sym end);
     }
 
 -- text grows: where it ends after a piece is no earlier than before

@@ -6,9 +6,8 @@ use mathlib.Core.Logic.{⊎-elim}
 use mathlib.Core.List.{List, _++_}
 use native.Mathlib.Nat.{sub-zero}
 use native.Mathlib.Omega.{arith}
-use lib.Dec.{leb, eqb}
-use lib.ListN.{length, take, drop, replicate, length-append, length-replicate}
-use lib.Seq.{take-append-seam}
+use lib.Dec.{leb}
+use lib.ListN.{length, take, replicate, length-replicate}
 use borrow.Author.Tests.{eq-eqb, ne-eqb, le-leb, lt-leb}
 use Rattle.yard.specs.declared.Answer.{Answer}
 use Rattle.yard.specs.declared.CardAnswer.{CardAnswer}
@@ -16,11 +15,12 @@ use Rattle.yard.specs.Limits.{limits}
 use Rattle.yard.specs.Night.{Night, Plan, carsOf, planOf}
 use Rattle.yard.specs.Replay.{passes, built}
 use Rattle.yard.specs.Derived.{stepsNeeded, derivedCodes, derivedPlan}
-use Rattle.yard.specs.Answers.{says}
+use Rattle.yard.specs.Answers.{says, onto}
 use Rattle.yard.specs.Demands.{BuildsTrains}
 use Rattle.yard.specs.Calls.{Checks, Derives, checkAnswer, deriveAnswer, deriveTests}
 use Rattle.yard.specs.Card.{card, cardPlan, readerVerdict, readerAnswer, writerTests, writerAnswer, Reads, Writes}
 use Rattle.yard.proofs.Numbers.{le-or-lt}
+use Rattle.yard.proofs.Fronts.{front-taken, front-within}
 use Rattle.yard.proofs.DerivedPlan.{length-by-car}
 use Rattle.yard.proofs.Verdict.{verdict-done, written-accepted, written-refused}
 use Rattle.yard.proofs.Card.{cardPlan-cars, cardPlan-codes}
@@ -53,18 +53,6 @@ empty n = replicate n 0
 
 empty-length : (n : ℕ) → length (empty n) ≡ n
 empty-length n = length-replicate n 0
-
--- n items at the front of a buffer
-pub record Front (items held : List ℕ) (n : ℕ) : Type 0 where
-  pub within : n ≤ length held
-  pub taken : take (n - 0) held ≡ items
-
-front : (items buffer held : List ℕ) (n : ℕ) → length items ≡ n → held ≡ items ++ drop (length items) buffer → Front items held n
-front items buffer held n e h =
-    record {
-      within = omega (arith, e, ap length h, length-append items (drop (length items) buffer));
-      taken = ap (λ k. take k held) (sub-zero n ∙ sym e) ∙ ap (take (length items)) h ∙ take-append-seam items (drop (length items) buffer);
-    }
 
 -- the texts of 1 to n, each written another way
 each-same : (f g : ℕ → List ℕ) (n : ℕ) → ((t : ℕ) → 1 ≤ t → t ≤ n → f t ≡ g t) → eachTo f n ≡ eachTo g n
@@ -127,21 +115,21 @@ module _ {bytes : List ℕ} {r : CardAnswer} {l₁ i₁ c₁ : List ℕ} (reads 
 
   -- the lists that were read
   module _ (e : r .number ≡ 0) where
-    pub lengths-front : Front (cardPlan bytes .night .lengths) l₁ (r .trains)
-    lengths-front =
+    pub lengths-within : r .trains ≤ length l₁
+    lengths-within =
         let told = read-told reads e in
-        front (cardPlan bytes .night .lengths) (empty 64) l₁ (r .trains) (sym (ap (λ q. q .trains) (told .answer))) (told .lengths)
+        front-within (cardPlan bytes .night .lengths) (empty 64) (told .lengths) (sym (ap (λ q. q .trains) (told .answer)))
 
-    pub inbound-front : Front (cardPlan bytes .night .inbound) i₁ (r .cars)
-    inbound-front =
+    pub inbound-within : r .cars ≤ length i₁
+    inbound-within =
         let told = read-told reads e in
-        front (cardPlan bytes .night .inbound) (empty 512) i₁ (r .cars) (sym (ap (λ q. q .cars) (told .answer))) (told .inbound)
+        front-within (cardPlan bytes .night .inbound) (empty 512) (told .inbound) (sym (ap (λ q. q .cars) (told .answer)))
 
-    pub codes-front : Front (cardPlan bytes .codes) c₁ (r .cars)
-    codes-front =
+    pub codes-within : r .cars ≤ length c₁
+    codes-within =
         let told = read-told reads e in
-        front (cardPlan bytes .codes) (empty 512) c₁ (r .cars)
-        (cardPlan-codes bytes ∙ sym (cardPlan-cars bytes) ∙ sym (ap (λ q. q .cars) (told .answer))) (told .codes)
+        front-within (cardPlan bytes .codes) (empty 512) (told .codes)
+        (cardPlan-codes bytes ∙ sym (cardPlan-cars bytes) ∙ sym (ap (λ q. q .cars) (told .answer)))
 
 -- nightplan, for a night: derive refuses it, or its plan is in hand
 module _ (n : Night) {after : List ℕ} {r : Answer} (derives : Derives n 8 (empty 512) r after) where
@@ -156,12 +144,17 @@ module _ (n : Night) {after : List ℕ} {r : Answer} (derives : Derives n 8 (emp
     derive-done : deriveAnswer limits n 8 512 .number ≡ 0
     derive-done = sym (ap (λ q. q .number) found) ∙ e
 
-    pub derived-front : Front (derivedCodes n) after (length (n .inbound))
+    codes-length : length (derivedCodes n) ≡ length (n .inbound)
     unfolding derivedCodes
-    derived-front =
-        front (derivedCodes n) (empty 512) after (length (n .inbound)) (length-by-car _ (length (n .inbound)))
-        (derives .codes
-        ∙ written-accepted (deriveAnswer limits n 8 (length (empty 512))) (derivedCodes n) (empty 512) (sym (ap (λ q. q .number) (derives .answer)) ∙ e))
+    codes-length = length-by-car _ (length (n .inbound))
+
+    codes-written : after ≡ onto (derivedCodes n) (empty 512)
+    codes-written =
+        derives .codes
+        ∙ written-accepted (deriveAnswer limits n 8 (length (empty 512))) (derivedCodes n) (empty 512) (sym (ap (λ q. q .number) (derives .answer)) ∙ e)
+
+    pub derived-within : length (n .inbound) ≤ length after
+    derived-within = front-within (derivedCodes n) (empty 512) codes-written codes-length
 
     steps-needed : r .a ≡ stepsNeeded n
     unfolding deriveAnswer
@@ -172,7 +165,9 @@ module _ (n : Night) {after : List ℕ} {r : Answer} (derives : Derives n 8 (emp
     -- the plan that is drawn is the derived one
     plan-derived : planOf (n .lengths) (n .inbound) (n .tracks) (n .room) (r .a) (take (length (n .inbound) - 0) after) ≡ derivedPlan n
     unfolding derivedPlan
-    plan-derived = ap₂ (λ (h : ℕ) (codes : List ℕ). record { night = n; steps = h; codes = codes }) steps-needed (derived-front .taken)
+    plan-derived =
+        ap₂ (λ (h : ℕ) (codes : List ℕ). record { night = n; steps = h; codes = codes }) steps-needed
+        (ap (λ k. take k after) (sub-zero (length (n .inbound))) ∙ front-taken (derivedCodes n) (empty 512) codes-written codes-length)
 
     -- it is drawn: the buffer is too short, or the card stands at its front
     module _

@@ -80,7 +80,9 @@ module _ (n : Night) (derived : deriveAnswer limits n 8 512 .number ≡ 0) where
       let others = take 10 (writerTests limits p size) in
       let done = says 0 long 0 in
       let all = verdict-passes (writerTests limits p long) done .0 (derived-writes long (le-refl long)) .0 in
-      verdict-first others (listTest 6 (leb long size)) [] done (passed-append others (listTest 6 (leb long long) ∷ []) .0 all .0) (refused (lt-leb long size short))
+      verdict-first others (listTest 6 (leb long size)) [] done
+      (passed-append others (listTest 6 (leb long long) ∷ []) .0 all .0)
+      (refused (lt-leb long size short))
       ∙ ap (listTest 6) (lt-leb long size short)
     where
       refused : {b : Bool} → b ≡ false → listTest 6 b .number ≡ 0 → ⊥

@@ -6,7 +6,7 @@ use borrow.Author.Needs.{needs}
 use Rattle.yard.specs.Night.{nightOf}
 use Rattle.report.specs.Programs.{cardIn}
 use Rattle.lines.proofs.Adding.{adds-same}
-use Rattle.report.proofs.Programs.{derive-refused, derived-front, drawn-refused, drawn-done}
+use Rattle.report.proofs.Programs.{derive-refused, derived-within, drawn-refused, drawn-done}
 use Rattle.report.proofs.derived.Statement.{statement}
 use Rattle.report.proofs.derived.Tie as tie
 
@@ -24,7 +24,7 @@ part-write-end c =
     let at-derive = at-else .before .before .before in
     let args = at-derive .before .before .before .before .before .args in
     let n = nightOf (now (args .lengths)) (now (args .inbound)) (args .tracks) (args .room) in
-    derived-front n (at-derive .derive .ensures) (at-else .if1 .left) .within
+    derived-within n (at-derive .derive .ensures) (at-else .if1 .left)
 
 returns-2 : tie.Need-returns-2
 returns-2 c =

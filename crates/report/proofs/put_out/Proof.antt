@@ -6,7 +6,7 @@ use lib.ListN.{length}
 use borrow.Author.Needs.{needs}
 use Rattle.report.specs.Programs.{outOf}
 use Rattle.lines.proofs.Adding.{adds-same, adds-end}
-use Rattle.report.proofs.Programs.{card-refused, card-done, lengths-front, inbound-front, codes-front}
+use Rattle.report.proofs.Programs.{card-refused, card-done, lengths-within, inbound-within, codes-within}
 use Rattle.report.proofs.put_out.Statement.{statement}
 use Rattle.report.proofs.put_out.Tie as tie
 
@@ -21,12 +21,12 @@ returns c =
 part-trains-end : tie.Need-part-trains-end
 part-trains-end c =
     let at-else = c .before in
-    lengths-front (at-else .before .before .before .before .before .read .ensures) (at-else .if1 .left) .within
+    lengths-within (at-else .before .before .before .before .before .read .ensures) (at-else .if1 .left)
 
 part-order-end : tie.Need-part-order-end
 part-order-end c =
     let at-else = c .before .before .before in
-    inbound-front (at-else .before .before .before .before .before .read .ensures) (at-else .if1 .left) .within
+    inbound-within (at-else .before .before .before .before .before .read .ensures) (at-else .if1 .left)
 
 returns-2 : tie.Need-returns-2
 returns-2 c =
@@ -41,7 +41,7 @@ returns-2 c =
 part-plan-end : tie.Need-part-plan-end
 part-plan-end c =
     let at-else = c .before .before .before .before .before .before .before in
-    codes-front (at-else .before .before .before .before .before .read .ensures) (at-else .if1 .left) .within
+    codes-within (at-else .before .before .before .before .before .read .ensures) (at-else .if1 .left)
 
 returns-3 : tie.Need-returns-3
 returns-3 c =
