@@ -139,7 +139,10 @@ module _ (n : Night) (limit : ℕ) (before : List ℕ) {given : Answer} (is : gi
       let counted = passed-append (nightCounts limits n limit) (drop 5 (openTests n limit (length before))) .0 all in
       let lists = passed-append (nightTests n) (listTest 3 fits ∷ []) .0 (counted .1) in
       record {
-        given = record { counts = counts-passed limits (length (n .inbound)) (length (n .lengths)) (n .tracks) (n .room) limit .0 (counted .0); lists = lists-passed n .0 (lists .0) };
+        given = record {
+          counts = counts-passed limits (length (n .inbound)) (length (n .lengths)) (n .tracks) (n .room) limit .0 (counted .0);
+          lists = lists-passed n .0 (lists .0);
+        };
         buffer = leb-true (length (n .inbound)) (length before) (list-passed 3 fits .0 (lists .1 .0));
       }
     where
