@@ -1,23 +1,23 @@
-"""The library through its C interface, as a shared object made from the archive.
+"""The library's C interface: every struct and call of include/altairpeg.h, declared here and nowhere else."""
 
-The archive's code is position independent, so one command makes a shared object of it:
-
-    gcc -shared -o libaltairpeg.so -Wl,--whole-archive libaltairpeg.a -Wl,--no-whole-archive
-
-It is run on first use, and again when the archive is newer; the result goes to the folder `built`
-beside this file. The archive is `target/staticlib/libaltairpeg.a` of the repository, which
-`rt staticlib altairpeg` makes; the variable ALTAIRPEG_ARCHIVE names another.
-"""
+from __future__ import annotations
 
 import ctypes
-import os
-import subprocess
-import tempfile
-from ctypes import POINTER, c_double, c_size_t, c_uint8, c_uint16
+from ctypes import c_double, c_size_t, c_uint8, c_void_p
+from functools import lru_cache
 from pathlib import Path
+from typing import TYPE_CHECKING, Any
 
-HERE = Path(__file__).resolve().parent
-BUILT = HERE / "built" / "libaltairpeg.so"
+from . import building
+from .errors import LibraryError
+
+if TYPE_CHECKING:
+    from array import array
+
+CARS = 512
+TRAINS = 64
+STEPS = 8
+CARD_BYTES = 1237
 
 
 class Answer(ctypes.Structure):
@@ -29,7 +29,7 @@ class Answer(ctypes.Structure):
 class CardAnswer(ctypes.Structure):
     """What the card reader tells."""
 
-    _fields_ = Answer._fields_ + [(name, c_size_t) for name in ("steps", "tracks", "room", "cars", "trains")]
+    _fields_ = [*Answer._fields_, *((name, c_size_t) for name in ("steps", "tracks", "room", "cars", "trains"))]
 
 
 class Timings(ctypes.Structure):
@@ -41,51 +41,65 @@ class Timings(ctypes.Structure):
 class PriceAnswer(ctypes.Structure):
     """What the price tells."""
 
-    _fields_ = Answer._fields_ + [("price", c_double)]
+    _fields_ = [*Answer._fields_, ("price", c_double)]
 
 
-LIST = [POINTER(c_uint16), c_size_t]
-BYTES = [POINTER(c_uint8), c_size_t]
+class Items:
+    """A pointer to the items of an array; the call's arguments hold the array until the call is over."""
+
+    @classmethod
+    def from_param(cls, items: array[int]) -> c_void_p:
+        return c_void_p(items.buffer_info()[0])
+
+
+LIST: list[Any] = [Items, c_size_t]
 NIGHT = LIST + LIST
 PLAN = NIGHT + LIST + [c_size_t] * 3
 
-CALLS = {
+CALLS: dict[str, tuple[list[Any], Any]] = {
     "altairpeg_derive": (NIGHT + [c_size_t] * 3 + LIST, Answer),
     "altairpeg_check": (PLAN, Answer),
     "altairpeg_replay": (PLAN + [c_size_t] + LIST + LIST, Answer),
-    "altairpeg_read": (BYTES + LIST * 3, CardAnswer),
-    "altairpeg_write": (PLAN + BYTES, Answer),
+    "altairpeg_read": (LIST * 4, CardAnswer),
+    "altairpeg_write": (PLAN + LIST, Answer),
     "altairpeg_price": ([c_size_t, c_size_t, Timings], PriceAnswer),
     "altairpeg_fewest_tracks": ([c_uint8], c_size_t),
 }
 
 
-def archive():
-    """The archive of which the shared object is made."""
-    named = os.environ.get("ALTAIRPEG_ARCHIVE")
-    return Path(named) if named else HERE.parent.parent / "target" / "staticlib" / "libaltairpeg.a"
-
-
-def build(source):
-    """Makes the shared object; another process that reads it meanwhile sees the old one or the new one, whole."""
-    BUILT.parent.mkdir(exist_ok=True)
-    with tempfile.TemporaryDirectory(dir=BUILT.parent) as folder:
-        made = Path(folder) / BUILT.name
-        command = ["gcc", "-shared", "-o", str(made), "-Wl,--whole-archive", str(source), "-Wl,--no-whole-archive"]
-        subprocess.run(command, check=True)
-        os.replace(made, BUILT)
-
-
-def load():
-    """The library, with the type of each call; the shared object is made where it is missing or old."""
-    source = archive()
-    if not source.is_file():
-        raise FileNotFoundError(f"no {source.name}: run `rt staticlib altairpeg` in the repository's root, or set ALTAIRPEG_ARCHIVE")
-    if not BUILT.is_file() or BUILT.stat().st_mtime < source.stat().st_mtime:
-        build(source)
-    library = ctypes.CDLL(str(BUILT))
-    for name, (taken, given) in CALLS.items():
-        call = getattr(library, name)
-        call.argtypes = taken
-        call.restype = given
+def opened(path: Path, told: Path) -> ctypes.CDLL:
+    """The library in a shared object, with the type of each call; an error tells of the file it was made of."""
+    try:
+        library = ctypes.CDLL(str(path))
+        for name, (taken, given) in CALLS.items():
+            call = getattr(library, name)
+            call.argtypes = taken
+            call.restype = given
+    except OSError as trouble:
+        raise LibraryError(f"{told} gives a shared object that can't be loaded: {trouble}") from None
+    except AttributeError:
+        raise LibraryError(f"{told} is broken or not of Altairpeg's library: it has no {name}") from None
     return library
+
+
+def _of_archive(source: Path) -> ctypes.CDLL:
+    """The library of an archive, from the cache where its shared object is there and whole."""
+    made = building.cached(source)
+    if made.is_file():
+        try:
+            return opened(made, made)
+        except LibraryError:
+            pass  # cut off by a full disk, say: it is made anew
+    building.build(source, made)
+    return opened(made, source)
+
+
+@lru_cache(maxsize=None)
+def library() -> ctypes.CDLL:
+    """The library, loaded once."""
+    source = building.archive()
+    if source is not None:
+        return _of_archive(source)
+    if building.PACKAGED.is_file():
+        return opened(building.PACKAGED, building.PACKAGED)
+    raise LibraryError(f"there is no libaltairpeg.a: run `rt staticlib altairpeg` in the checkout, or let {building.VARIABLE} name one")

@@ -1,57 +1,36 @@
 """Refusals, in the paper's words."""
 
-WORDS = {
-    1: "a count out of its range",
-    2: "a train of length 0, or lengths not adding up to n",
-    3: "inbound list not each car once",
-    4: "a list whose length isn't its count, or a buffer to be written too short",
-    5: "fewest steps above the limit",
-    6: "a track overfilled",
-    7: "a code not below 2^h",
-    8: "a car pulled early",
-    9: "trains out of order",
-    10: "card too short",
-    11: "card edition not 1",
-    12: "non-zero padding, or bytes after the end",
-    13: "a timing not allowed",
-}
+from __future__ import annotations
 
-COUNTS = ("cars", "trains", "tracks", "room", "steps or limit", "stage above h", "passes")
-LISTS = ("lengths", "inbound", "codes", "tracks", "places", "card")
-TIMINGS = ("pull", "push")
+from .errors import AltairpegError
+from .words import DETAILS, NAMES, UNKNOWN, WORDS
+
+_UNKNOWN_DETAILS: dict[int | None, str] = {None: "A {a}, B {b}"}
 
 
-def _details(number, a, b):
+def _details(number: int, a: int, b: int) -> str:
     """What the two details of a refusal say."""
-    if number == 2 and a == 0:
-        return "the sum"
-    for numbered, names in ((1, COUNTS), (4, LISTS), (13, TIMINGS)):
-        if number == numbered:
-            return names[a - 1]
-    return {
-        2: f"train {a}",
-        3: f"place {a}",
-        5: f"fewest steps {a}",
-        6: f"step {a}, {b} cars",
-        7: f"car {a}",
-        8: f"car {a}, step {b}",
-        9: f"car {a}",
-        10: f"{a} bytes needed, as far as known",
-        11: f"edition {a}",
-        12: f"right length {a}",
-    }[number]
+    by_a = DETAILS.get(number, _UNKNOWN_DETAILS)
+    return by_a.get(a, by_a[None]).format(a=a, b=b)
 
 
-class Refusal(Exception):
-    """A call refused: the paper's number, its details a and b, and its words for them."""
+class Refusal(AltairpegError):
+    """A call refused: the paper's number, its details a and b, and its words for them.
 
-    def __init__(self, number, a, b):
+    `place` says what was given there, where the call knows it: `inbound[3] is -1`, an item by Python's index, which
+    counts from 0 where the paper's details count from 1. A number that the paper does not have gets words too.
+    """
+
+    def __init__(self, number: int, a: int = 0, b: int = 0, place: str | None = None) -> None:
         self.number = number
         self.a = a
         self.b = b
-        self.words = WORDS[number]
+        self.place = place
+        self.name = NAMES.get(number, "UNKNOWN")
+        self.words = WORDS.get(number, UNKNOWN)
         self.details = _details(number, a, b)
-        super().__init__(f"refused {number} {a} {b}: {self.words} ({self.details})")
+        told = f"refused {number} {a} {b}: {self.words} ({self.details})"
+        super().__init__(told if place is None else f"{told}: {place}")
 
-    def __reduce__(self):
-        return (Refusal, (self.number, self.a, self.b))
+    def __reduce__(self) -> tuple[type[Refusal], tuple[int, int, int, str | None]]:
+        return (Refusal, (self.number, self.a, self.b, self.place))

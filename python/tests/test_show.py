@@ -1,31 +1,103 @@
-"""The drawing of case 1, by the module's command."""
+"""The drawing as text, by the module's command."""
 
 import subprocess
-import sys
 import unittest
-from pathlib import Path
 
-HERE = Path(__file__).resolve().parent
-CARD = bytes.fromhex("12200C060203006030020280 40202D80")
+from altairpeg.show import brief, draw
+from altairpeg.story import tell
+
+from drawings import EARLY, OUT_OF_ORDER, OVERFILLED, many, show
+from support import CARD, PYTHON, SHORT, Scratch, altairpeg
+
+# How the drawing of each refused plan ends.
+ENDS = (
+    (OVERFILLED, """\
+stage 0, 6 passes
+  track 0 | 3 6 4!
+  track 1 | 5
+  train 1 | 1 2
+
+step 0 pulls track 0: 3 6 4!
+  ! overfilled: 3 cars, and track 0 has room for 2
+
+check: refused 6 0 3: a track overfilled (step 0, 3 cars)
+"""),
+    (EARLY, """\
+step 0 pulls track 0: 3 6 4!
+  ! too early for car 4: a code with 0 at step 0
+
+check: refused 8 4 0: a car pulled early (car 4, step 0)
+"""),
+    (OUT_OF_ORDER, """\
+trains as built
+  train 1: 3! 1 2 4 5 6
+    ! out of order: car 3 stands before car 2
+
+check: refused 9 3 0: trains out of order (car 3)
+"""),
+)
 
 
-def show(card):
-    """Runs the command on a card from standard input."""
-    return subprocess.run([sys.executable, "-m", "altairpeg", "show", "-"], input=card, capture_output=True, cwd=HERE.parent)
-
-
-class Show(unittest.TestCase):
+class Show(Scratch):
     def test_case_1(self):
-        run = show(CARD)
-        self.assertEqual(run.stderr, b"")
-        self.assertEqual(run.stdout.decode(), (HERE / "case_1.txt").read_text())
-        self.assertEqual(run.returncode, 0)
+        self.ran(show(CARD), 0, (PYTHON / "tests" / "case_1.txt").read_text())
+        self.ran(show(CARD, "--brief"), 0, (PYTHON / "tests" / "case_1_brief.txt").read_text())
 
-    def test_refusal(self):
-        run = show(b"")
-        self.assertEqual(run.stderr, b"refused 10 1 0: card too short (1 bytes needed, as far as known)\n")
-        self.assertEqual(run.stdout, b"")
-        self.assertEqual(run.returncode, 1)
+    def test_refused_cards(self):
+        self.ran(show(SHORT), 1, err="refused 10 16 0: card too short (16 bytes needed, as far as known)\n")
+        self.ran(show(b"refused 5 3 0\n"), 1, err="refused 5 3 0: fewest steps above the limit (fewest steps 3)\n")
+
+    def test_refused_plans_are_drawn_as_far_as_they_go(self):
+        for plan, end in ENDS:
+            run = show(plan)
+            self.assertEqual((run.returncode, run.stderr), (1, b""))
+            self.assertEqual(run.stdout.decode()[-len(end) :], end)
+
+    def test_512_cars_fit_the_width(self):
+        for plan in (many(64, 8), many(8, 64), many(1, 512, 8)):
+            story = tell(plan)
+            for width in (40, 80, 132):
+                for text in (draw(story, width), brief(story, width)):
+                    self.assertLessEqual(max(map(len, text.splitlines())), width)
+
+    def test_512_cars_are_a_few_pages(self):
+        self.assertLess(len(draw(tell(many(64, 8))).splitlines()), 600)
+
+    def test_every_car_is_named_where_it_rolls(self):
+        story = tell(many(64, 8))
+        rolls = " ".join(draw(story).split("\n\n")[1].splitlines()[1:])
+        cuts = [cut.rsplit(" -> ", 1)[0] for cut in rolls.strip().split("   ")]
+        self.assertEqual([int(car) for cut in cuts for car in cut.split()], story.plan.night.inbound)
+
+    def test_width_of_the_terminal(self):
+        for columns in (60, 100):
+            lines = show(many(8, 64), columns=columns).stdout.decode().splitlines()
+            self.assertTrue(columns - 10 < max(map(len, lines)) <= columns)
+
+
+class Files(Scratch):
+    def test_files_that_cannot_be_read(self):
+        for name in (self.folder / "none", self.folder):
+            run = altairpeg("show", name)
+            self.assertEqual((run.returncode, run.stdout), (2, b""))
+            self.assertEqual(len(run.stderr.splitlines()), 1)
+
+    def test_cards_that_are_none(self):
+        for data in (b"\x12", b"\xff" * 5000, bytes(100000), b"refused", b"refused 5 3", "refused ٣ 1 1".encode()):
+            run = show(data)
+            self.assertEqual((run.returncode, run.stdout, run.stderr[:8]), (1, b"", b"refused "), data[:20])
+
+    def test_an_input_without_end(self):
+        self.assertEqual(altairpeg("show", "/dev/zero").returncode, 1)
+
+    def test_full_device(self):
+        with open("/dev/full", "wb") as full:
+            run = show(CARD, capture_output=False, stdout=full, stderr=subprocess.PIPE)
+        self.assertEqual((run.returncode, len(run.stderr.splitlines())), (2, 1), run.stderr)
+
+    def test_wrong_usage(self):
+        for words in ([], ["a", "b"], ["--what", "a"], ["--brief", "--svg", "x", "a"], ["--svg", "x"], ["--br", "a"]):
+            self.assertEqual(altairpeg("show", *words, stdin=subprocess.DEVNULL).returncode, 2)
 
 
 if __name__ == "__main__":

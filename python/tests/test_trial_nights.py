@@ -7,27 +7,10 @@ import unittest
 
 import altairpeg
 from altairpeg import Checked, Derived, Night, Plan, Refusal, check, derive, fewest_tracks, price, read_card, replay, write_card
-
-INBOUND = [3, 6, 1, 5, 2, 4]
-CARD = bytes.fromhex("12200C060203006030020280 40202D80")
+from support import CARD, INBOUND, Scratch, n, turned
 
 
-def n(tracks=2, room=512):
-    """Night N, one train."""
-    return Night([6], INBOUND, tracks, room)
-
-
-def turned(cars, tracks):
-    """One train of cars that come in the wrong way round."""
-    return Night([cars], list(range(cars, 0, -1)), tracks, 512)
-
-
-class TrialNights(unittest.TestCase):
-    def refused(self, number, a, b, call, *given):
-        with self.assertRaises(Refusal) as caught:
-            call(*given)
-        self.assertEqual((caught.exception.number, caught.exception.a, caught.exception.b), (number, a, b))
-
+class TrialNights(Scratch):
     def test_case_1(self):
         self.assertEqual(derive(n()), Derived(steps=2, passes=11, codes=[0, 0, 1, 1, 2, 3]))
 
@@ -99,8 +82,8 @@ class TrialNights(unittest.TestCase):
 
     def test_numbers_too_large_are_not_cut_off(self):
         self.assertRaises(ValueError, fewest_tracks, 256)
-        self.assertRaises(ValueError, derive, Night([6 + 2**16], INBOUND, 2, 3))
-        self.assertRaises(ValueError, derive, n(tracks=2 + 2**64))
+        self.refused(2, 0, 0, derive, Night([6 + 2**16], INBOUND, 2, 3))
+        self.refused(1, 3, 0, derive, n(tracks=2 + 2**64))
 
     def test_refusal_in_words(self):
         refusal = Refusal(6, 0, 3)

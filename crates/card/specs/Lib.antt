@@ -1,6 +1,4 @@
 -- What the contracts of this crate cite besides the yard's written meaning.
-pub mod Eyes
-pub mod Fields
-pub mod Heads
-pub mod Pens
-pub mod Plans
+pub mod Format
+pub mod Reading
+pub mod Writing

@@ -1,65 +1,20 @@
 // The night card of document 01: its reader and its writer.
+use bits::fields;
 use yard::Answer;
 use yard::CardAnswer;
+use yard::Head;
 
-mod fields; // fields.rt: numbers read from the bits of a card
-mod pens; // pens.rt: bits written on a card in order
+mod format; // format.rt: the widths of a card's fields, and where they stand
 mod reader; // reader.rt: the reader's tests
 mod writer; // writer.rt: the writer's tests, and the card drawn
 
 ghost use mathlib.Core.Path.{_≡_};
-ghost use Rattle.yard.specs.Night.{sum, planOf};
-ghost use Rattle.yard.specs.Card.{widths, cardLength, readerSays, Reads, Writes};
-ghost use Rattle.card.specs.Plans.{Short};
+ghost use Rattle.yard.specs.Night.{planOf};
+ghost use Rattle.yard.specs.Card.{readerSays, Reads, Writes};
 
-// The bits of a card's head, and those of a length or an inbound number.
-const HEAD: usize = 39;
-
-const NUMBER: usize = 10;
-
-// The numbers at the head of a card.
-pub struct Head {
-    pub edition: usize,
-    pub steps: usize,
-    pub tracks: usize,
-    pub room: usize,
-    pub cars: usize,
-    pub trains: usize,
-}
-
-// An eye on a card: its place, and the bits that it holds from there on, the lowest `held` of a number.
-pub struct Eye {
-    pub at: usize,
-    pub held: usize,
-    pub word: usize,
-}
-
-// A pen over a card: the bytes that it has written, and the bits still pending, the lowest `count` of a number.
-pub struct Pen {
-    pub at: usize,
-    pub count: usize,
-    pub pending: usize,
-}
-
-// The bits of all fields of a card.
-fn bits(steps: usize, cars: usize, trains: usize) -> usize
-    requires { ⌜ Short steps cars trains ⌝ }
-    ensures { λ r. ⌜ r ≡ sum (widths steps cars trains) ⌝ }
-{
-    HEAD + trains * NUMBER + cars * NUMBER + cars * steps
-}
-
-// The length of a card in bytes.
-fn length(steps: usize, cars: usize, trains: usize) -> usize
-    requires { ⌜ Short steps cars trains ⌝ }
-    ensures { λ r. ⌜ r ≡ cardLength steps cars trains ⌝ }
-{
-    (bits(steps, cars, trains) + 7) / 8
-}
-
-// The reader's answer: the verdict, and numbers of the card.
+// The reader's answer: the verdict, and the numbers of a head.
 fn told(verdict: Answer, head: Head) -> CardAnswer
-    ensures { λ r. ⌜ r ≡ readerSays verdict (head .steps) (head .tracks) (head .room) (head .cars) (head .trains) ⌝ }
+    ensures { λ r. ⌜ r ≡ readerSays verdict head ⌝ }
 {
     CardAnswer {
         number: verdict.number,
@@ -100,10 +55,10 @@ pub fn read(card: &[u8], lengths: &mut [u16], inbound: &mut [u16], codes: &mut [
         };
         return told(verdict, none);
     }
-    let codes_at = HEAD + head.trains * NUMBER + head.cars * NUMBER;
+    let at = format::places_of(head);
     intake::copy(&lengths_on, head.trains, lengths);
     intake::copy(&inbound_on, head.cars, inbound);
-    fields::fields(card, codes_at, head.steps, head.cars, codes);
+    fields::fields(card, at.codes, head.steps, head.cars, codes);
     told(verdict, head)
 }
 
@@ -119,9 +74,17 @@ pub fn write(
 ) -> Answer
     ensures { λ r. ⌜ Writes (planOf (now (lengths .entry)) (now (inbound .entry)) tracks room steps (now (codes .entry))) (now (card .entry)) r (now (card .exit)) ⌝ }
 {
-    let answer = writer::answer(lengths, inbound, codes, tracks, room, steps, card.len());
+    let head = Head {
+        edition: 1,
+        steps,
+        tracks,
+        room,
+        cars: inbound.len(),
+        trains: lengths.len(),
+    };
+    let answer = writer::answer(lengths, inbound, codes, head, card.len());
     if answer.number == 0 {
-        writer::draw(lengths, inbound, codes, tracks, room, steps, card);
+        writer::draw(lengths, inbound, codes, head, card);
     }
     answer
 }

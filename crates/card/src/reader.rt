@@ -1,29 +1,35 @@
 // The reader's tests, in document 01's order.
-use crate::HEAD;
-use crate::Head;
-use crate::NUMBER;
-use crate::fields;
+use crate::format;
+use bits::fields;
 use yard::Answer;
+use yard::Head;
 ghost use mathlib.Core.Path.{_≡_};
 ghost use Prim.Native.Nat.{_≤_};
 ghost use lib.ListN.{length};
 ghost use Rattle.yard.specs.Limits.{limits};
 ghost use Rattle.yard.specs.Answers.{says, verdict};
-ghost use Rattle.yard.specs.Card.{readerVerdict};
-ghost use Rattle.card.specs.Plans.{Short};
-ghost use Rattle.card.specs.Heads.{headOf, headTests, sizeTests, listsOn, Held};
+ghost use Rattle.yard.specs.Card.{headOn, readerVerdict};
+ghost use Rattle.card.specs.Format.{Bounded};
+ghost use Rattle.card.specs.Reading.{headTests, sizeTests, nightTestsOn, Held};
 
-// The numbers at the head of a card.
+// The numbers at the head of a card, one behind the other.
 pub fn head(card: &[u8]) -> Head
-    ensures { λ r. ⌜ r ≡ headOf (now (card .entry)) ⌝ }
+    ensures { λ r. ⌜ r ≡ headOn (now (card .entry)) ⌝ }
 {
+    let edition = fields::take(card, fields::look(card, 0), 4);
+    let l = format::layout_of(edition.number);
+    let steps = fields::take(card, edition.eye, l.steps);
+    let tracks = fields::take(card, steps.eye, l.tracks);
+    let room = fields::take(card, tracks.eye, l.room);
+    let cars = fields::take(card, room.eye, l.cars);
+    let trains = fields::take(card, cars.eye, l.trains);
     Head {
-        edition: fields::field(card, 0, 4),
-        steps: fields::field(card, 4, 4),
-        tracks: fields::field(card, 8, 4),
-        room: fields::field(card, 12, 10),
-        cars: fields::field(card, 22, 10),
-        trains: fields::field(card, 32, 7),
+        edition: edition.number,
+        steps: steps.number,
+        tracks: tracks.number,
+        room: room.number,
+        cars: cars.number,
+        trains: trains.number,
     }
 }
 
@@ -31,18 +37,19 @@ pub fn head(card: &[u8]) -> Head
 fn head_tests(size: usize, head: Head) -> Answer
     ensures { λ r. ⌜ r ≡ verdict (headTests size head) (says 0 0 0) ⌝ }
 {
+    let needed = format::head_length(head);
     let counts = intake::counts(head.cars, head.trains, head.tracks, head.room, head.steps);
-    let whole = intake::unless(intake::test(5 <= size, 10, 5), counts);
+    let whole = intake::unless(intake::test(needed <= size, 10, needed), counts);
     let edition = intake::unless(intake::test(head.edition == 1, 11, head.edition), whole);
     intake::unless(intake::test(1 <= size, 10, 1), edition)
 }
 
 // 10 and 4: the card is whole, and the buffers for lengths, inbound and codes are long enough.
 fn size_tests(size: usize, head: Head, lengths: usize, inbound: usize, codes: usize) -> Answer
-    requires { ⌜ Short (head .steps) (head .cars) (head .trains) ⌝ }
+    requires { ⌜ Bounded head ⌝ }
     ensures { λ r. ⌜ r ≡ verdict (sizeTests size head lengths inbound codes) (says 0 0 0) ⌝ }
 {
-    let right = crate::length(head.steps, head.cars, head.trains);
+    let right = format::length(head);
     let by_car = intake::unless(
         intake::list(2, head.cars <= inbound),
         intake::list(3, head.cars <= codes),
@@ -52,18 +59,16 @@ fn size_tests(size: usize, head: Head, lengths: usize, inbound: usize, codes: us
 }
 
 // 2 and 3: reads lengths and inbound numbers to the front of two arrays, and tests these.
-fn lists(
-    card: &[u8],
-    trains: usize,
-    cars: usize,
-    lengths: &mut [u16],
-    inbound: &mut [u16],
-) -> Answer
-    requires { ⌜ Short 0 cars trains × (trains ≤ length (now lengths)) × (cars ≤ length (now inbound)) ⌝ }
-    ensures { λ r. ⌜ (r ≡ verdict (listsOn (now (card .entry)) cars trains) (says 0 0 0)) × Held (now (card .entry)) cars trains (now (lengths .exit)) (now (inbound .exit)) ⌝ }
+fn lists(card: &[u8], head: Head, lengths: &mut [u16], inbound: &mut [u16]) -> Answer
+    requires { ⌜ Bounded head × (head .trains ≤ length (now lengths)) × (head .cars ≤ length (now inbound)) ⌝ }
+    ensures { λ r. ⌜ (r ≡ verdict (nightTestsOn (now (card .entry)) head) (says 0 0 0)) × Held (now (card .entry)) head (now (lengths .exit)) (now (inbound .exit)) ⌝ }
 {
-    fields::fields(card, HEAD, NUMBER, trains, lengths);
-    fields::fields(card, HEAD + trains * NUMBER, NUMBER, cars, inbound);
+    let at = format::places_of(head);
+    let l = format::layout_of(head.edition);
+    let trains = head.trains;
+    let cars = head.cars;
+    fields::fields(card, at.lengths, l.number, trains, lengths);
+    fields::fields(card, at.inbound, l.number, cars, inbound);
     intake::lists(&lengths[0..trains], &inbound[0..cars])
 }
 
@@ -77,8 +82,8 @@ pub fn verdict(
     trains: &mut [u16],
     order: &mut [u16],
 ) -> Answer
-    requires { ⌜ (head ≡ headOf (now card)) × (limits .trains ≤ length (now trains)) × (limits .cars ≤ length (now order)) ⌝ }
-    ensures { λ r. ⌜ (r ≡ readerVerdict limits (now (card .entry)) lengths inbound codes) × (r .number ≡ 0 → Held (now (card .entry)) (head .cars) (head .trains) (now (trains .exit)) (now (order .exit))) ⌝ }
+    requires { ⌜ (head ≡ headOn (now card)) × (limits .trains ≤ length (now trains)) × (limits .cars ≤ length (now order)) ⌝ }
+    ensures { λ r. ⌜ (r ≡ readerVerdict limits (now (card .entry)) lengths inbound codes) × (r .number ≡ 0 → Held (now (card .entry)) head (now (trains .exit)) (now (order .exit))) ⌝ }
 {
     let first = head_tests(card.len(), head);
     if first.number != 0 {
@@ -88,8 +93,8 @@ pub fn verdict(
     if second.number != 0 {
         return second;
     }
-    let bits = crate::bits(head.steps, head.cars, head.trains);
-    let last = intake::test(fields::ends(card, bits), 12, (bits + 7) / 8);
-    let night = lists(card, head.trains, head.cars, trains, order);
+    let at = format::places_of(head);
+    let last = intake::test(fields::ends(card, at.end), 12, format::length(head));
+    let night = lists(card, head, trains, order);
     intake::unless(night, last)
 }

@@ -1,8 +1,4 @@
--- Laws that the proofs of this crate cite.
-pub mod Adding
-pub mod Numerals
-pub mod Listing
-pub mod Standing
+-- Laws that the proofs of this crate cite, and what a caller has in hand.
 pub mod Yields
 pub mod Programs
 pub mod Cut

@@ -5,9 +5,9 @@ use mathlib.Core.List.{List}
 use native.Mathlib.Omega.{arith}
 use lib.ListN.{length, take}
 use Rattle.yard.specs.Card.{card}
-use Rattle.report.specs.Text.{Adds}
+use Rattle.lines.specs.Text.{Adds}
 use Rattle.report.specs.Programs.{checkedLines, nightcardText, ofDerived, nightplanBytes, nightplanIn}
-use Rattle.report.proofs.Adding.{adds-one, adds-same}
+use Rattle.lines.proofs.Adding.{adds-one, adds-same}
 use Rattle.report.proofs.Cut.{input-cut}
 use Rattle.report.proofs.Whole.{nightcard-short, nightplan-short, nightplan-fits, adds-whole}
 

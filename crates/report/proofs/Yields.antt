@@ -12,11 +12,11 @@ use Rattle.yard.specs.Limits.{limits}
 use Rattle.yard.specs.Night.{Night, Plan}
 use Rattle.yard.specs.Derived.{derivedPlan}
 use Rattle.yard.specs.Answers.{says, listTest}
-use Rattle.yard.specs.Calls.{checkAnswer, replayAnswer, deriveAnswer, GoodPlan}
+use Rattle.yard.specs.Calls.{checkAnswer, deriveAnswer, GoodPlan}
 use Rattle.yard.specs.Card.{card, writerTests, writerAnswer, Writable}
-use Rattle.yard.specs.Demands.{Within, Listed, BuildsTrains}
+use Rattle.yard.specs.Demands.{Listed, BuildsTrains}
 use Rattle.yard.proofs.Verdict.{verdict-passes, verdict-first, passed-append}
-use Rattle.yard.proofs.Demands.{check-accepts-exactly, replay-accepts-exactly, derive-accepts-exactly, derive-least}
+use Rattle.yard.proofs.Demands.{check-accepts-exactly, derive-accepts-exactly, derive-least}
 use Rattle.yard.proofs.CardDemands.{writer-accepts-exactly}
 use Rattle.yard.proofs.CardCalls.{written-longest}
 
@@ -24,7 +24,6 @@ use Rattle.yard.proofs.CardCalls.{written-longest}
 pub record Good (p : Plan) : Type 0 where
   pub cars : length (p .night .inbound) ≤ 512
   pub trains : length (p .night .lengths) ≤ 64
-  pub tracks : Within 1 8 (p .night .tracks)
   pub listed : Listed (p .night .lengths) (p .night .inbound)
   pub builds : BuildsTrains p
 
@@ -39,29 +38,9 @@ module _ (p : Plan) (accepted : checkAnswer limits p .number ≡ 0) where
       record {
         cars = counts .cars .1;
         trains = counts .trains .1;
-        tracks = counts .tracks;
         listed = whole .given .lists;
         builds = whole .builds;
       }
-
-  -- its replay to the last stage is accepted too
-  pub checked-replays : (trackSize placeSize : ℕ)
-      → length (p .night .inbound) ≤ trackSize
-      → length (p .night .inbound) ≤ placeSize
-      → replayAnswer limits p (p .steps) trackSize placeSize .number ≡ 0
-  unfolding whole
-  checked-replays trackSize placeSize tracks places =
-      replay-accepts-exactly limits p (p .steps) trackSize placeSize .1
-      (record {
-        given = whole .given;
-        reached = (omega arith, le-refl (p .steps));
-        each = whole .each;
-        tracks = tracks;
-        places = places;
-        below = whole .below;
-        never = whole .never;
-        room = whole .room;
-      })
 
 module _ (n : Night) (derived : deriveAnswer limits n 8 512 .number ≡ 0) where
   writable : (size : ℕ) → length (card (derivedPlan n)) ≤ size → Writable limits (derivedPlan n) size

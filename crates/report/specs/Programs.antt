@@ -11,7 +11,7 @@ use Rattle.yard.specs.Replay.{built}
 use Rattle.yard.specs.Derived.{derivedPlan}
 use Rattle.yard.specs.Calls.{checkAnswer, deriveAnswer}
 use Rattle.yard.specs.Card.{card, cardPlan, readerVerdict}
-use Rattle.report.specs.Lines.{refusalLine, countsLine, trainLine, eachTo}
+use Rattle.lines.specs.Lines.{refusalLine, countsLine, trainLine, eachTo}
 
 -- what is put out where an answer is done, and its refusal line where it is not
 abbrev pub unlessRefused : Answer → List ℕ → List ℕ

@@ -1,15 +1,13 @@
 // What the two programs put out for a card: document 01's lines, and the card of the derived plan.
-mod text; // text.rt: pieces of text, one behind the other
-mod lines; // lines.rt: document 01's lines
+mod edge; // edge.rt: the programs' reading and writing
 
-ghost use Prim.Native.Nat.{_≤_};
-ghost use mathlib.Core.Path.{_≡_};
+pub use edge::run_nightcard;
+pub use edge::run_nightplan;
 ghost use lib.ListN.{length};
-ghost use Rattle.yard.specs.Limits.{limits};
+ghost use Rattle.io.specs.Counts.{Counts};
 ghost use Rattle.yard.specs.Night.{nightOf, planOf};
-ghost use Rattle.yard.specs.Calls.{checkAnswer};
-ghost use Rattle.report.specs.Text.{Adds};
-ghost use Rattle.report.specs.Programs.{trainLines, checkedLines, ofDerived, cardIn, outOf, ofCard, nightcardText, nightplanIn};
+ghost use Rattle.lines.specs.Text.{Adds};
+ghost use Rattle.report.specs.Programs.{checkedLines, ofDerived, cardIn, outOf, ofCard, nightcardText, nightplanIn};
 
 // The most trains and cars of a night.
 const TRAINS: usize = 64;
@@ -35,6 +33,7 @@ pub fn nightplan(card: &[u8], out: &mut [u8]) -> usize
 // Reads a card, and puts out its plan: derived anew, or checked as it is.
 fn put_out(card: &[u8], out: &mut [u8], anew: bool) -> usize
     ensures { λ r. ⌜ Adds (ofCard (outOf anew (length (now (out .entry)))) (now (card .entry))) (now (out .entry)) 0 r (now (out .exit)) ⌝ }
+    ensures { λ r. ⌜ Counts r (now (out .exit)) ⌝ }
 {
     let mut lengths = [0u16; TRAINS];
     let mut inbound = [0u16; CARS];
@@ -61,7 +60,8 @@ fn put_out(card: &[u8], out: &mut [u8], anew: bool) -> usize
     )
 }
 
-// The lines of a plan: refused by check, or its counts and its trains as the replay built them.
+// The lines of a plan: refused by check, or its counts and its trains as the replay built them, which
+// are in order (`trains-built` in proofs/Programs.antt).
 fn plan(
     text: &mut [u8],
     lengths: &[u16],
@@ -80,40 +80,7 @@ fn plan(
     }
     let n = inbound.len();
     let end = lines::counts(text, steps, tracks, room, n, lengths.len(), checked.a);
-    trains(text, end, lengths, inbound, codes, tracks, room, steps)
-}
-
-// The lines of the trains of a plan that check accepts, as its replay builds them.
-fn trains(
-    text: &mut [u8],
-    at: usize,
-    lengths: &[u16],
-    inbound: &[u16],
-    codes: &[u16],
-    tracks: usize,
-    room: usize,
-    steps: usize,
-) -> usize
-    requires { ⌜ at ≤ length (now text) ⌝ }
-    requires { ⌜ checkAnswer limits (planOf (now lengths) (now inbound) tracks room steps (now codes)) .number ≡ 0 ⌝ }
-    ensures { λ r. ⌜ Adds (trainLines (planOf (now (lengths .entry)) (now (inbound .entry)) tracks room steps (now (codes .entry))))
-        (now (text .entry)) at r (now (text .exit)) ⌝ }
-{
-    let mut on = [0u16; CARS];
-    let mut places = [0u16; CARS];
-    plans::replay(
-        lengths,
-        inbound,
-        codes,
-        tracks,
-        room,
-        steps,
-        steps,
-        &mut on,
-        &mut places,
-    );
-    let n = inbound.len();
-    lines::trains(text, at, lengths, tracks, &on[0..n], &places[0..n])
+    lines::trains(text, end, lengths)
 }
 
 // The card of the plan that is derived for a night with limit 8, or the refusal: derive's, or the

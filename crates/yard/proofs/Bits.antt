@@ -10,7 +10,7 @@ use lib.ListN.{length, getD, take, drop, replicate, length-append, length-replic
 use lib.Pow.{pow-pos, high}
 use lib.Seq.{drop-at, drop-drop, drop-length, getD-drop, take-length}
 use Rattle.yard.specs.Night.{sum}
-use Rattle.yard.specs.Card.{toBits, fromBits, packed, unpacked, wholeBytes, toBytes, bitsOf}
+use Rattle.yard.specs.Bits.{toBits, fromBits, packed, unpacked, wholeBytes, toBytes, bitsOf}
 
 -- every item of a list is below k
 abbrev pub Below : ℕ → List ℕ → Type 0
@@ -75,6 +75,19 @@ length-packed (w ∷ ws) (x ∷ xs) e =
 pub length-unpacked : (ws bits : List ℕ) → length (unpacked ws bits) ≡ length ws
 length-unpacked [] bits = refl
 length-unpacked (w ∷ ws) bits = ap suc (length-unpacked ws (drop w bits))
+
+-- Fields of some widths, then those of others.
+pub packed-append : (ws vs xs ys : List ℕ) → length xs ≡ length ws → packed (ws ++ vs) (xs ++ ys) ≡ packed ws xs ++ packed vs ys
+packed-append [] vs [] ys e = refl
+packed-append [] vs (x ∷ xs) ys e = absurd (suc-ne-zero (length xs) e)
+packed-append (w ∷ ws) vs [] ys e = absurd (suc-ne-zero (length ws) (sym e))
+packed-append (w ∷ ws) vs (x ∷ xs) ys e =
+    ap (λ l. toBits w x ++ l) (packed-append ws vs xs ys (suc-inj e)) ∙ sym (append-assoc (toBits w x) (packed ws xs) (packed vs ys))
+
+pub unpacked-append : (ws vs bits : List ℕ) → unpacked (ws ++ vs) bits ≡ unpacked ws bits ++ unpacked vs (drop (sum ws) bits)
+unpacked-append [] vs bits = refl
+unpacked-append (w ∷ ws) vs bits =
+    ap (λ l. fromBits w bits ∷ l) (unpacked-append ws vs (drop w bits) ∙ ap (λ l. unpacked ws (drop w bits) ++ unpacked vs l) (drop-drop (sum ws) w bits))
 
 -- Bits are 0 or 1, and so is every bit of a packed list.
 pub toBits-below : (w x : ℕ) → Below 2 (toBits w x)

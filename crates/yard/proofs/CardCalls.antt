@@ -1,156 +1,48 @@
 -- The card's calls: what the writer writes the reader reads back, what the reader accepts is the card of its plan, and each call has one outcome.
-use Prim.Native.Nat.{ℕ, _^_, _≤_}
-use mathlib.Core.Path.{_≡_, refl, sym, ap, _∙_}
-use mathlib.Core.Logic.{_↔_}
+use Prim.Native.Nat.{ℕ, _-_, _≤_}
+use mathlib.Core.Path.{_≡_, refl, sym, ap, subst, _∙_}
 use mathlib.Core.Bool.{Bool, true, false, cond}
-use mathlib.Core.List.{List, [], _∷_, _++_}
+use mathlib.Core.List.{List, _++_}
 use native.Mathlib.Nat.{le-refl, le-of-eq}
 use native.Mathlib.Omega.{arith}
-use lib.Dec.{leb, eqb}
+use lib.Dec.{eqb}
 use lib.ListN.{length, take, drop}
 use lib.Seq.{take-append-seam}
-use borrow.Author.Tests.{leb-true, le-leb, eqb-true, eq-eqb}
+use lib.Pow.{pow-pos}
 use Rattle.yard.specs.declared.Answer.{Answer}
 use Rattle.yard.specs.declared.CardAnswer.{CardAnswer}
 use Rattle.yard.specs.Limits.{Limits, limits}
 use Rattle.yard.specs.Night.{Plan}
-use Rattle.yard.specs.Answers.{says, test, listTest, codeTest}
-use Rattle.yard.specs.Calls.{countTests, nightCounts, nightTests}
-use Rattle.yard.specs.Card.{Bytes, card, headField, cardPlan, rightLength, endsRight, writerTests, writerAnswer, Writes, readerTests, readerSays, readerVerdict, readerAnswer, Reads}
-use Rattle.yard.proofs.Verdict.{Passed, passed-append, verdict-passes, verdict-done, written-accepted}
-use Rattle.yard.specs.Demands.{InLimits}
-use Rattle.yard.proofs.Tests.{asks, counts-passed, list-passed, sum-passed, code-passed, inbound-within, item-le-sum}
-use Rattle.yard.proofs.Bits.{Below}
-use Rattle.yard.proofs.Card.{card-length, cardLength-head, card-longest, Fitting, card-head, cardPlan-card, card-right-length, card-ends-right, cardPlan-head, IsCard, card-cardPlan, cardPlan-fitting}
-
--- The writer accepts exactly if counts and lists pass, codes fit, and the buffer is long enough.
-pub record Writable (L : Limits) (p : Plan) (size : ℕ) : Type 0 where
-  pub counts : InLimits L (length (p .night .inbound)) (length (p .night .lengths)) (p .night .tracks) (p .night .room) (p .steps)
-  pub night : Passed (nightTests (p .night))
-  pub coded : length (p .codes) ≡ length (p .night .inbound)
-  pub codes : Below (2 ^ p .steps) (p .codes)
-  pub room : length (card p) ≤ size
-
-pub writer-accepts : (L : Limits) (p : Plan) (size : ℕ) → (writerAnswer L p size .number ≡ 0) ↔ Writable L p size
-unfolding writerAnswer
-writer-accepts L p size =
-    let n = length (p .night .inbound) in
-    let last = listTest 3 (eqb (length (p .codes)) n) ∷ codeTest (p .steps) (p .codes) ∷ listTest 6 (leb (length (card p)) size) ∷ [] in
-    let all = verdict-passes (writerTests L p size) (says 0 (length (card p)) 0) in
-    let counts = passed-append (nightCounts L (p .night) (p .steps)) (nightTests (p .night) ++ last) in
-    let within = counts-passed L n (length (p .night .lengths)) (p .night .tracks) (p .night .room) (p .steps) in
-    let night = passed-append (nightTests (p .night)) last in
-    let coded = list-passed 3 (eqb (length (p .codes)) n) in
-    let codes = code-passed (p .steps) (p .codes) in
-    let room = list-passed 6 (leb (length (card p)) size) in (
-      λ e.
-          let t = counts .0 (all .0 e .0) in
-          let u = night .0 (t .1) in
-          record {
-            counts = within .0 (t .0);
-            night = u .0;
-            coded = eqb-true (length (p .codes)) n (coded .0 (u .1 .0));
-            codes = codes .0 (u .1 .1 .0);
-            room = leb-true (length (card p)) size (room .0 (u .1 .1 .1 .0));
-          },
-      λ w.
-          let l : Passed last = (coded .1 (eq-eqb (length (p .codes)) n (w .coded)), (codes .1 (w .codes), (room .1 (le-leb (length (card p)) size (w .room)), tt))) in
-          all .1 (counts .1 (within .1 (w .counts), night .1 (w .night, l)), refl),
-    )
-
--- The reader accepts exactly if the edition is 1, counts and lists pass, the buffers are long enough, and the card ends right.
-pub record Readable (L : Limits) (bytes : List ℕ) (a b c : ℕ) : Type 0 where
-  pub edition : headField bytes 0 ≡ 1
-  pub head : 5 ≤ length bytes
-  pub counts : InLimits L (headField bytes 4) (headField bytes 5) (headField bytes 2) (headField bytes 3) (headField bytes 1)
-  pub whole : rightLength bytes ≤ length bytes
-  pub lengths : headField bytes 5 ≤ a
-  pub inbound : headField bytes 4 ≤ b
-  pub codes : headField bytes 4 ≤ c
-  pub night : Passed (nightTests (cardPlan bytes .night))
-  pub ends : endsRight bytes ≡ true
-
-pub reader-accepts : (L : Limits) (bytes : List ℕ) (a b c : ℕ) → (readerVerdict L bytes a b c .number ≡ 0) ↔ Readable L bytes a b c
-unfolding readerVerdict
-reader-accepts L bytes a b c =
-    let n = headField bytes 4 in
-    let m = headField bytes 5 in
-    let last = test (endsRight bytes) (says 12 (rightLength bytes) 0) ∷ [] in
-    let body =
-    test (leb (rightLength bytes) (length bytes)) (says 10 (rightLength bytes) 0)
-    ∷ listTest 1 (leb m a)
-    ∷ listTest 2 (leb n b)
-    ∷ listTest 3 (leb n c)
-    ∷ nightTests (cardPlan bytes .night) ++ last in
-    let all = verdict-passes (readerTests L bytes a b c) (says 0 0 0) in
-    let counts = passed-append (countTests L n m (headField bytes 2) (headField bytes 3) (headField bytes 1)) body in
-    let within = counts-passed L n m (headField bytes 2) (headField bytes 3) (headField bytes 1) in
-    let night = passed-append (nightTests (cardPlan bytes .night)) last in
-    let some = asks (leb 1 (length bytes)) 9 1 0 in
-    let edition = asks (eqb (headField bytes 0) 1) 10 (headField bytes 0) 0 in
-    let head = asks (leb 5 (length bytes)) 9 5 0 in
-    let whole = asks (leb (rightLength bytes) (length bytes)) 9 (rightLength bytes) 0 in
-    let ends = asks (endsRight bytes) 11 (rightLength bytes) 0 in (
-      λ e.
-          let t = all .0 e .0 in
-          let u = counts .0 (t .1 .1 .1) in
-          let v = u .1 in
-          let w = night .0 (v .1 .1 .1 .1) in
-          record {
-            edition = eqb-true (headField bytes 0) 1 (edition .0 (t .1 .0));
-            head = leb-true 5 (length bytes) (head .0 (t .1 .1 .0));
-            counts = within .0 (u .0);
-            whole = leb-true (rightLength bytes) (length bytes) (whole .0 (v .0));
-            lengths = leb-true m a (list-passed 1 (leb m a) .0 (v .1 .0));
-            inbound = leb-true n b (list-passed 2 (leb n b) .0 (v .1 .1 .0));
-            codes = leb-true n c (list-passed 3 (leb n c) .0 (v .1 .1 .1 .0));
-            night = w .0;
-            ends = ends .0 (w .1 .0);
-          },
-      λ r.
-          let v : Passed body = (
-            whole .1 (le-leb (rightLength bytes) (length bytes) (r .whole)),
-            (
-              list-passed 1 (leb m a) .1 (le-leb m a (r .lengths)),
-              (
-                list-passed 2 (leb n b) .1 (le-leb n b (r .inbound)),
-                (list-passed 3 (leb n c) .1 (le-leb n c (r .codes)), night .1 (r .night, (ends .1 (r .ends), tt))),
-              ),
-            ),
-          ) in
-          let t : Passed (readerTests L bytes a b c) = (
-            some .1 (le-leb 1 (length bytes) (omega (arith, r .head))),
-            (
-              edition .1 (eq-eqb (headField bytes 0) 1 (r .edition)),
-              (head .1 (le-leb 5 (length bytes) (r .head)), counts .1 (within .1 (r .counts), v)),
-            ),
-          ) in
-          all .1 (t, refl),
-    )
+use Rattle.yard.specs.Answers.{says}
+use Rattle.yard.specs.Bits.{Bytes}
+use Rattle.yard.specs.Card.{layout, card, headLength, headOf, headOn, cardPlan, rightLength, endsRight, writerTests, writerAnswer, Writable, Writes, readerTests, HeadWithin, Readable, noHead, readerSays, readerVerdict, readerAnswer, judged, Reads}
+use Rattle.yard.proofs.Verdict.{verdict-done, written-accepted}
+use Rattle.yard.proofs.Tests.{items-below, inbound-within, item-le-sum}
+use Rattle.yard.proofs.Formed.{inbound-passed}
+use Rattle.yard.proofs.CardDemands.{writer-accepts-exactly, reader-accepts-exactly}
+use Rattle.yard.proofs.Card.{card-length, cardLength-head, card-longest, Fitting, headLength-some, card-head, cardPlan-card, card-right-length, card-ends-right, cardPlan-cars, cardPlan-codes, cardPlan-head, IsCard, card-cardPlan, cardPlan-codes-below}
 
 -- A plan that the writer accepts fits a card: no train is longer than the night, and every inbound number is a car's.
 writable-fitting : (p : Plan) (size : ℕ) → Writable limits p size → Fitting p
+unfolding layout
 writable-fitting p size w =
     let n = length (p .night .inbound) in
-    let counts = w .counts in
-    let adds = sum-passed (p .night .lengths) n .0 (w .night .1 .0) in
-    let within = inbound-within (p .night .inbound) (w .night .1 .1 .0) in
+    let counts = w .given .counts in
+    let adds = w .given .lists .adds in
+    let within = inbound-within (p .night .inbound) (inbound-passed (p .night .inbound) .1 (w .given .lists .once)) in
     record {
-      steps = omega arith;
-      tracks = omega arith;
-      room = omega arith;
-      cars = omega arith;
-      trains = omega arith;
+      head = (omega arith, (omega arith, (omega arith, (omega arith, (omega arith, (omega arith, tt))))));
       lengths = λ i. omega (arith, item-le-sum (p .night .lengths) i);
       inbound = λ i. omega (arith, within i);
-      codes = w .codes;
-      coded = w .coded;
+      codes = items-below (p .codes) (pow-pos (p .steps)) (λ j low high. w .below j (low, high));
+      coded = w .each;
     }
 
 pub written-longest : (p : Plan) (size : ℕ) → writerAnswer limits p size .number ≡ 0 → length (card p) ≤ 1237
 written-longest p size e =
-    let w = writer-accepts limits p size .0 e in
-    card-longest p (w .coded) (w .counts .steps .1) (w .counts .cars .1) (w .counts .trains .1)
+    let w = writer-accepts-exactly limits p size .0 e in
+    let counts = w .given .counts in
+    card-longest p (w .each) (counts .steps .1) (counts .cars .1) (counts .trains .1)
 
 -- What the writer writes the reader accepts, and reads back.
 pub written-read-back : (p : Plan) (size a b c : ℕ)
@@ -160,27 +52,28 @@ pub written-read-back : (p : Plan) (size a b c : ℕ)
     → length (p .codes) ≤ c
     → (readerVerdict limits (card p) a b c .number ≡ 0) × (cardPlan (card p) ≡ p)
 written-read-back p size a b c e la lb lc =
-    let w = writer-accepts limits p size .0 e in
+    let w = writer-accepts-exactly limits p size .0 e in
     let f = writable-fitting p size w in
     let head = card-head p f in
     let readable : Readable limits (card p) a b c =
     record {
-      edition = head .edition;
-      head = rw (card-length p (w .coded)) (cardLength-head (p .steps) (length (p .night .inbound)) (length (p .night .lengths)));
-      counts = rw (head .steps, head .tracks, head .room, head .cars, head .trains) (w .counts);
+      some = rw (card-length p (w .each)) (omega (arith, cardLength-head (headOf p), headLength-some (headOf p)));
+      edition = ap (λ h. h .edition) head;
+      head = rw (head, card-length p (w .each)) (cardLength-head (headOf p));
+      counts = rw head (w .given .counts);
       whole = le-of-eq (card-right-length p f);
-      lengths = rw (head .trains) la;
-      inbound = rw (head .cars) lb;
-      codes = rw (head .cars) (rw (w .coded) at lc);
-      night = rw (cardPlan-card p f) (w .night);
+      lengths = rw head la;
+      inbound = rw head lb;
+      codes = rw head (rw (w .each) at lc);
+      lists = rw (cardPlan-card p f) (w .given .lists);
       ends = card-ends-right p f;
     } in
-    (reader-accepts limits (card p) a b c .1 readable, cardPlan-card p f)
+    (reader-accepts-exactly limits (card p) a b c .1 readable, cardPlan-card p f)
 
 -- What the reader accepts is the card of its plan, and the writer accepts that plan.
 pub accepted-isCard : (L : Limits) (bytes : List ℕ) (a b c : ℕ) → Bytes bytes → readerVerdict L bytes a b c .number ≡ 0 → IsCard bytes
 accepted-isCard L bytes a b c small e =
-    let r = reader-accepts L bytes a b c .0 e in
+    let r = reader-accepts-exactly L bytes a b c .0 e in
     record { small = small; edition = r .edition; ends = r .ends }
 
 pub accepted-is-the-card : (L : Limits) (bytes : List ℕ) (a b c size : ℕ)
@@ -189,19 +82,20 @@ pub accepted-is-the-card : (L : Limits) (bytes : List ℕ) (a b c size : ℕ)
     → length bytes ≤ size
     → (card (cardPlan bytes) ≡ bytes) × (writerAnswer L (cardPlan bytes) size .number ≡ 0)
 accepted-is-the-card L bytes a b c size small e h =
-    let r = reader-accepts L bytes a b c .0 e in
+    let r = reader-accepts-exactly L bytes a b c .0 e in
     let same = card-cardPlan bytes (accepted-isCard L bytes a b c small e) in
-    let head = cardPlan-head bytes (r .edition) in
-    let f = cardPlan-fitting bytes in
     let writable : Writable L (cardPlan bytes) size =
     record {
-      counts = rw (head .steps, head .tracks, head .room, head .cars, head .trains) at (r .counts);
-      night = r .night;
-      coded = f .coded;
-      codes = f .codes;
-      room = rw same h;
+      given =
+          record {
+            counts = subst (HeadWithin L) (sym (cardPlan-head bytes (r .edition))) (r .counts);
+            lists = r .lists;
+          };
+      each = cardPlan-codes bytes ∙ sym (cardPlan-cars bytes);
+      below = λ car w. cardPlan-codes-below bytes (car - 1);
+      buffer = rw same h;
     } in
-    (same, writer-accepts L (cardPlan bytes) size .1 writable)
+    (same, writer-accepts-exactly L (cardPlan bytes) size .1 writable)
 
 pub accepted-longest : (bytes : List ℕ) (a b c : ℕ) → Bytes bytes → readerVerdict limits bytes a b c .number ≡ 0 → length bytes ≤ 1237
 accepted-longest bytes a b c small e =
@@ -210,28 +104,28 @@ accepted-longest bytes a b c small e =
 
 -- What a caller of the reader has in hand after an acceptance: the plan's numbers in the answer, and its lists at the front of the buffers.
 pub record Told (p : Plan) (lengths₀ inbound₀ codes₀ : List ℕ) (r : CardAnswer) (lengths₁ inbound₁ codes₁ : List ℕ) : Type 0 where
-  pub answer : r ≡ readerSays (says 0 0 0) (p .steps) (p .night .tracks) (p .night .room) (length (p .night .inbound)) (length (p .night .lengths))
+  pub answer : r ≡ readerSays (says 0 0 0) (headOf p)
   pub lengths : lengths₁ ≡ p .night .lengths ++ drop (length (p .night .lengths)) lengths₀
   pub inbound : inbound₁ ≡ p .night .inbound ++ drop (length (p .night .inbound)) inbound₀
   pub codes : codes₁ ≡ p .codes ++ drop (length (p .codes)) codes₀
 
--- the answer's number is the verdict's
-readerAnswer-number : (L : Limits) (bytes : List ℕ) (a b c : ℕ) → readerAnswer L bytes a b c .number ≡ readerVerdict L bytes a b c .number
+-- the answer's number, A and B are the verdict's
+pub reader-says : (L : Limits) (bytes : List ℕ) (a b c : ℕ)
+    → let r = readerAnswer L bytes a b c in
+    says (r .number) (r .a) (r .b) ≡ readerVerdict L bytes a b c
 unfolding readerAnswer
-readerAnswer-number L bytes a b c = go (eqb (readerVerdict L bytes a b c .number) 0)
+reader-says L bytes a b c = go (readerVerdict L bytes a b c) (eqb (readerVerdict L bytes a b c .number) 0)
   where
-    go : (t : Bool)
-        → cond t
-        (readerSays (readerVerdict L bytes a b c) (headField bytes 1) (headField bytes 2) (headField bytes 3) (headField bytes 4) (headField bytes 5))
-        (readerSays (readerVerdict L bytes a b c) 0 0 0 0 0)
-        .number
-        ≡ readerVerdict L bytes a b c .number
-    go true = refl
-    go false = refl
+    go : (v : Answer) (t : Bool) → let r = cond t (readerSays v (headOn bytes)) (readerSays v noHead) in says (r .number) (r .a) (r .b) ≡ v
+    go v true = refl
+    go v false = refl
+
+readerAnswer-number : (L : Limits) (bytes : List ℕ) (a b c : ℕ) → readerAnswer L bytes a b c .number ≡ readerVerdict L bytes a b c .number
+readerAnswer-number L bytes a b c = ap (λ (r : Answer). r .number) (reader-says L bytes a b c)
 
 readerAnswer-accepted : (L : Limits) (bytes : List ℕ) (a b c : ℕ)
     → readerVerdict L bytes a b c .number ≡ 0
-    → readerAnswer L bytes a b c ≡ readerSays (says 0 0 0) (headField bytes 1) (headField bytes 2) (headField bytes 3) (headField bytes 4) (headField bytes 5)
+    → readerAnswer L bytes a b c ≡ readerSays (says 0 0 0) (headOn bytes)
 unfolding readerAnswer readerVerdict
 readerAnswer-accepted L bytes a b c e =
     rw (verdict-done (readerTests L bytes a b c) (says 0 0 0) e)
@@ -242,18 +136,17 @@ module _
     {lengths₁ inbound₁ codes₁ : List ℕ}
     (reads : Reads bytes lengths₀ inbound₀ codes₀ r lengths₁ inbound₁ codes₁)
   where
-    reads-number : r .number ≡ readerVerdict limits bytes (length lengths₀) (length inbound₀) (length codes₀) .number
+    reads-number : r .number ≡ judged bytes lengths₀ inbound₀ codes₀ .number
     reads-number = ap (λ r. r .number) (reads .answer) ∙ readerAnswer-number limits bytes (length lengths₀) (length inbound₀) (length codes₀)
 
     pub read-told : r .number ≡ 0 → Told (cardPlan bytes) lengths₀ inbound₀ codes₀ r lengths₁ inbound₁ codes₁
     read-told e =
-        let v = readerVerdict limits bytes (length lengths₀) (length inbound₀) (length codes₀) in
+        let v = judged bytes lengths₀ inbound₀ codes₀ in
         let accepted : v .number ≡ 0 = sym reads-number ∙ e in
-        let readable = reader-accepts limits bytes (length lengths₀) (length inbound₀) (length codes₀) .0 accepted in
-        let head = cardPlan-head bytes (readable .edition) in
-        let says = reads .answer ∙ readerAnswer-accepted limits bytes (length lengths₀) (length inbound₀) (length codes₀) accepted in
+        let readable = reader-accepts-exactly limits bytes (length lengths₀) (length inbound₀) (length codes₀) .0 accepted in
+        let told = reads .answer ∙ readerAnswer-accepted limits bytes (length lengths₀) (length inbound₀) (length codes₀) accepted in
         record {
-          answer = rw (head .steps, head .tracks, head .room, head .cars, head .trains) at says;
+          answer = told ∙ ap (readerSays (says 0 0 0)) (sym (cardPlan-head bytes (readable .edition)));
           lengths = reads .lengths ∙ written-accepted v (cardPlan bytes .night .lengths) lengths₀ accepted;
           inbound = reads .inbound ∙ written-accepted v (cardPlan bytes .night .inbound) inbound₀ accepted;
           codes = reads .codes ∙ written-accepted v (cardPlan bytes .codes) codes₀ accepted;

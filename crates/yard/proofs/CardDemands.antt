@@ -8,10 +8,12 @@ use lib.Dec.{leb, eqb}
 use lib.ListN.{length}
 use borrow.Author.Tests.{eqb-true, eq-eqb}
 use Rattle.yard.specs.Limits.{Limits}
-use Rattle.yard.specs.Night.{Plan}
-use Rattle.yard.specs.Answers.{says, Ask, AllHold, FirstFails, bufferAsk}
+use Rattle.yard.specs.declared.Head.{Head}
+use Rattle.yard.specs.Night.{Night, Plan}
+use Rattle.yard.specs.Answers.{says, Ask, AllHold, FirstFails}
 use Rattle.yard.specs.Calls.{listAsks}
-use Rattle.yard.specs.Card.{card, headField, cardPlan, rightLength, endsRight, writerOwn, writerAsks, writerAnswer, Writable, bytesAsk, editionAsk, endAsk, headCounts, readerAsks, readerVerdict, Readable}
+use Rattle.yard.specs.Card.{card, headLength, headOn, cardPlan, rightLength, endsRight, writerOwn, writerAsks, writerAnswer, Writable}
+use Rattle.yard.specs.Card.{bytesAsk, editionAsk, endAsk, headCounts, sizeAsks, readerAsks, readerVerdict, Readable}
 use Rattle.yard.proofs.Asks.{Right, Sound, holds-append, sound-append, accepted-exactly, refused-exactly, plain-right}
 use Rattle.yard.proofs.Rights.{at-most-right, length-right, buffer-right, code-right}
 use Rattle.yard.proofs.Demands.{counts-sound, counts-hold, lists-sound, lists-hold, opening-sound, opening-holds}
@@ -53,47 +55,42 @@ module _ (L : Limits) (p : Plan) (size : ℕ) where
 bytes-right : (needed : ℕ) (bytes : List ℕ) → Right (bytesAsk needed bytes)
 bytes-right needed bytes = at-most-right 9 needed needed (length bytes)
 
-edition-right : (bytes : List ℕ) → Right (editionAsk bytes)
-edition-right bytes =
-    let edition = headField bytes 0 in
-    plain-right 10 (eqb edition 1) edition (edition ≡ 1) (eqb-true edition 1, eq-eqb edition 1)
+edition-right : (edition : ℕ) → Right (editionAsk edition)
+edition-right edition = plain-right 10 (eqb edition 1) edition (edition ≡ 1) (eqb-true edition 1, eq-eqb edition 1)
 
 end-right : (bytes : List ℕ) → Right (endAsk bytes)
 end-right bytes = plain-right 11 (endsRight bytes) (rightLength bytes) (endsRight bytes ≡ true) (λ e. e, λ e. e)
 
-module _ (L : Limits) (bytes : List ℕ) (lengthsSize inboundSize codesSize : ℕ) where
-  -- what is asked behind the counts, and behind the sizes
-  abbrev last-asks : List Ask
-  last-asks = listAsks (cardPlan bytes .night) ++ (endAsk bytes ∷ [])
+head-sound : (L : Limits) (h : Head) → Sound (headCounts L h)
+head-sound L h = counts-sound L (h .cars) (h .trains) (h .tracks) (h .room) (h .steps)
 
-  abbrev size-asks : List Ask
-  size-asks =
-      bytesAsk (rightLength bytes) bytes ∷
-      bufferAsk 1 (headField bytes 5) lengthsSize ∷
-      bufferAsk 2 (headField bytes 4) inboundSize ∷
-      bufferAsk 3 (headField bytes 4) codesSize ∷
-      last-asks
+module _ (L : Limits) (bytes : List ℕ) (lengthsSize inboundSize codesSize : ℕ) where
+  abbrev h : Head
+  h = headOn bytes
+
+  abbrev night : Night
+  night = cardPlan bytes .night
+
+  abbrev sizes : List Ask
+  sizes = sizeAsks bytes lengthsSize inboundSize codesSize
+
+  last-sound : Sound (listAsks night ++ (endAsk bytes ∷ []))
+  last-sound = sound-append (listAsks night) (endAsk bytes ∷ []) (lists-sound night) (λ _. (end-right bytes, λ _. tt))
 
   reader-sound : Sound (readerAsks L bytes lengthsSize inboundSize codesSize)
   reader-sound = (
     bytes-right 1 bytes,
     λ _. (
-      edition-right bytes,
+      edition-right (h .edition),
       λ _. (
-        bytes-right 5 bytes,
+        bytes-right (headLength h) bytes,
         λ _.
-            sound-append (headCounts L bytes) size-asks (counts-sound L (headField bytes 4) (headField bytes 5) (headField bytes 2) (headField bytes 3) (headField bytes 1))
+            sound-append (headCounts L h) sizes (head-sound L h)
             (λ _. (
               bytes-right (rightLength bytes) bytes,
               λ _. (
-                buffer-right 1 (headField bytes 5) lengthsSize,
-                λ _. (
-                  buffer-right 2 (headField bytes 4) inboundSize,
-                  λ _. (
-                    buffer-right 3 (headField bytes 4) codesSize,
-                    λ _. sound-append (listAsks (cardPlan bytes .night)) (endAsk bytes ∷ []) (lists-sound (cardPlan bytes .night)) (λ _. (end-right bytes, λ _. tt)),
-                  ),
-                ),
+                buffer-right 1 (h .trains) lengthsSize,
+                λ _. (buffer-right 2 (h .cars) inboundSize, λ _. (buffer-right 3 (h .cars) codesSize, λ _. last-sound)),
               ),
             )),
       ),
@@ -102,9 +99,9 @@ module _ (L : Limits) (bytes : List ℕ) (lengthsSize inboundSize codesSize : �
 
   reader-holds : AllHold (readerAsks L bytes lengthsSize inboundSize codesSize) ↔ Readable L bytes lengthsSize inboundSize codesSize
   reader-holds =
-      let counted = counts-hold L (headField bytes 4) (headField bytes 5) (headField bytes 2) (headField bytes 3) (headField bytes 1) in
-      let parted = holds-append (headCounts L bytes) size-asks in
-      let listed = holds-append (listAsks (cardPlan bytes .night)) (endAsk bytes ∷ []) in (
+      let counted = counts-hold L (h .cars) (h .trains) (h .tracks) (h .room) (h .steps) in
+      let parted = holds-append (headCounts L h) sizes in
+      let listed = holds-append (listAsks night) (endAsk bytes ∷ []) in (
         λ (some, more).
             let (edition, more) = more in
             let (head, more) = more in
@@ -123,22 +120,13 @@ module _ (L : Limits) (bytes : List ℕ) (lengthsSize inboundSize codesSize : �
               lengths = lengths;
               inbound = inbound;
               codes = codes;
-              lists = lists-hold (cardPlan bytes .night) .0 lists;
+              lists = lists-hold night .0 lists;
               ends = ends .0;
             },
-        λ r. (
-          r .some,
-          (
-            r .edition,
-            (
-              r .head,
-              parted .1 (
-                counted .1 (r .counts),
-                (r .whole, (r .lengths, (r .inbound, (r .codes, listed .1 (lists-hold (cardPlan bytes .night) .1 (r .lists), (r .ends, tt)))))),
-              ),
-            ),
-          ),
-        ),
+        λ r.
+            let last = listed .1 (lists-hold night .1 (r .lists), (r .ends, tt)) in
+            let body : AllHold sizes = (r .whole, (r .lengths, (r .inbound, (r .codes, last)))) in
+            (r .some, (r .edition, (r .head, parted .1 (counted .1 (r .counts), body)))),
       )
 
   pub reader-accepts-exactly : (readerVerdict L bytes lengthsSize inboundSize codesSize .number ≡ 0) ↔ Readable L bytes lengthsSize inboundSize codesSize

@@ -18,7 +18,6 @@ pub mod Asks
 pub mod Bits
 pub mod Tests
 pub mod Card
-pub mod CardCalls
 pub mod Formed
 pub mod Plans
 pub mod Building
@@ -28,6 +27,8 @@ pub mod PullOuts
 pub mod Rights
 pub mod Demands
 pub mod CardDemands
+pub mod CardCalls
+pub mod CardCut
 pub mod PlanYard
 pub mod EarlySearch
 pub mod Trials

@@ -1,5 +1,5 @@
--- The night card: one list of field widths, from which writer and reader are both read.
-use Prim.Native.Nat.{ℕ, zero, suc, _+_, _*_, _/_, _%_, _^_, _≤_, _<_}
+-- The night card: one layout of widths, from which writer and reader are both read.
+use Prim.Native.Nat.{ℕ, _≤_}
 use mathlib.Core.Path.{_≡_}
 use mathlib.Core.Bool.{Bool, true, cond, _&&_}
 use mathlib.Core.List.{List, [], _∷_, _++_}
@@ -7,65 +7,71 @@ use lib.Dec.{leb, eqb}
 use lib.ListN.{length, getD, take, drop, replicate}
 use Rattle.yard.specs.declared.Answer.{Answer}
 use Rattle.yard.specs.declared.CardAnswer.{CardAnswer}
+use Rattle.yard.specs.declared.Layout.{Layout}
+use Rattle.yard.specs.declared.Head.{Head}
 use Rattle.yard.specs.Words.{every}
+use Rattle.yard.specs.Bits.{Bytes, fromBits, packed, unpacked, wholeBytes, toBytes, bitsOf}
 use Rattle.yard.specs.Limits.{Limits, limits}
-use Rattle.yard.specs.Night.{Night, Plan, sum}
+use Rattle.yard.specs.Night.{Plan, planOf, sum}
 use Rattle.yard.specs.Demands.{InLimits, Listed, Given, CodesBelow}
 use Rattle.yard.specs.Answers.{says, verdict, written, Ask, answers, plain, lengthAsk, bufferAsk, codeAsk}
 use Rattle.yard.specs.Calls.{countAsks, listAsks, opening}
 
--- a list of bytes, as every slice of bytes is
-abbrev pub Bytes : List ℕ → Type 0
-Bytes l = (i : ℕ) → getD l i 0 < 256
+-- The widths of an edition's fields. There is one edition so far, so each number has edition 1's.
+unfoldable pub layout : ℕ → Layout
+layout edition = record { steps = 4; tracks = 4; room = 10; cars = 10; trains = 7; number = 10 }
 
--- The format: edition, h, W, C, n and m; m lengths and n inbound numbers; n codes of h bits.
-abbrev pub headWidths : List ℕ
-headWidths = 4 ∷ 4 ∷ 4 ∷ 10 ∷ 10 ∷ 7 ∷ []
+-- The head, in the order of the card: the widths of its fields, their numbers, and these by name again.
+abbrev pub headWidths : Layout → List ℕ
+headWidths l = 4 ∷ l .steps ∷ l .tracks ∷ l .room ∷ l .cars ∷ l .trains ∷ []
 
-abbrev pub widths : ℕ → ℕ → ℕ → List ℕ
-widths h n m = headWidths ++ (replicate m 10 ++ (replicate n 10 ++ replicate n h))
+abbrev pub headFields : Head → List ℕ
+headFields h = h .edition ∷ h .steps ∷ h .tracks ∷ h .room ∷ h .cars ∷ h .trains ∷ []
+
+abbrev pub headFrom : List ℕ → Head
+headFrom xs =
+    record {
+      edition = getD xs 0 0;
+      steps = getD xs 1 0;
+      tracks = getD xs 2 0;
+      room = getD xs 3 0;
+      cars = getD xs 4 0;
+      trains = getD xs 5 0;
+    }
+
+-- Behind it m lengths and n inbound numbers, then n codes of h bits.
+abbrev pub listWidths : Head → List ℕ
+listWidths h =
+    let l = layout (h .edition) in
+    replicate (h .trains) (l .number) ++ (replicate (h .cars) (l .number) ++ replicate (h .cars) (h .steps))
+
+abbrev pub widths : Head → List ℕ
+widths h = headWidths (layout (h .edition)) ++ listWidths h
+
+-- the bytes that a head takes up, and those of the whole card
+unfoldable pub headLength : Head → ℕ
+headLength h = wholeBytes (sum (headWidths (layout (h .edition))))
+
+unfoldable pub cardLength : Head → ℕ
+cardLength h = wholeBytes (sum (widths h))
+
+-- The card of a plan: its head and its lists in bits, with zero bits to the byte.
+abbrev pub headOf : Plan → Head
+headOf p =
+    record {
+      edition = 1;
+      steps = p .steps;
+      tracks = p .night .tracks;
+      room = p .night .room;
+      cars = length (p .night .inbound);
+      trains = length (p .night .lengths);
+    }
 
 unfoldable pub fields : Plan → List ℕ
-fields p =
-    1 ∷ p .steps ∷ p .night .tracks ∷ p .night .room ∷ length (p .night .inbound) ∷ length (p .night .lengths) ∷
-    (p .night .lengths ++ (p .night .inbound ++ p .codes))
-
--- a number in w bits, most significant first, and the number of the first w bits of a list, 0 standing for bits that are missing
-abbrev pub toBits : ℕ → ℕ → List ℕ
-toBits zero x = []
-toBits (suc w) x = x / 2 ^ w % 2 ∷ toBits w x
-
-abbrev pub fromBits : ℕ → List ℕ → ℕ
-fromBits zero bits = 0
-fromBits (suc w) [] = 0
-fromBits (suc w) (b ∷ bits) = b * 2 ^ w + fromBits w bits
-
--- fields of given widths, one behind the other, as bits; and back
-abbrev pub packed : List ℕ → List ℕ → List ℕ
-packed [] xs = []
-packed (w ∷ ws) [] = []
-packed (w ∷ ws) (x ∷ xs) = toBits w x ++ packed ws xs
-
-abbrev pub unpacked : List ℕ → List ℕ → List ℕ
-unpacked [] bits = []
-unpacked (w ∷ ws) bits = fromBits w bits ∷ unpacked ws (drop w bits)
-
--- bits in bytes, with zero bits to the byte, and the bits of bytes: fields of eight bits each
-abbrev pub wholeBytes : ℕ → ℕ
-wholeBytes bits = (bits + 7) / 8
-
-abbrev pub toBytes : List ℕ → List ℕ
-toBytes bits = unpacked (replicate (wholeBytes (length bits)) 8) bits
-
-abbrev pub bitsOf : List ℕ → List ℕ
-bitsOf bytes = packed (replicate (length bytes) 8) bytes
-
--- the length of a card in bytes, and the card of a plan
-unfoldable pub cardLength : ℕ → ℕ → ℕ → ℕ
-cardLength h n m = wholeBytes (sum (widths h n m))
+fields p = headFields (headOf p) ++ (p .night .lengths ++ (p .night .inbound ++ p .codes))
 
 unfoldable pub card : Plan → List ℕ
-card p = toBytes (packed (widths (p .steps) (length (p .night .inbound)) (length (p .night .lengths))) (fields p))
+card p = toBytes (packed (widths (headOf p)) (fields p))
 
 -- The writer: a plan, and a lent buffer for the card.
 abbrev pub writerOwn : Plan → ℕ → List Ask
@@ -96,57 +102,65 @@ pub record Writes (p : Plan) (before : List ℕ) (r : Answer) (after : List ℕ)
   pub answer : r ≡ writerAnswer limits p (length before)
   pub bytes : after ≡ written (writerAnswer limits p (length before)) (card p) before
 
--- What a card says: the numbers at its head, and the plan that its fields give.
-unfoldable pub headField : List ℕ → ℕ → ℕ
-headField bytes k = getD (unpacked headWidths (bitsOf bytes)) k 0
+-- What bytes say: the numbers at the head, the lists behind it, and the plan that they give.
+unfoldable pub headOn : List ℕ → Head
+headOn bytes = headFrom (unpacked (headWidths (layout (fromBits 4 (bitsOf bytes)))) (bitsOf bytes))
+
+unfoldable pub listsOn : List ℕ → List ℕ
+listsOn bytes =
+    let h = headOn bytes in
+    unpacked (listWidths h) (drop (sum (headWidths (layout (h .edition)))) (bitsOf bytes))
 
 unfoldable pub cardPlan : List ℕ → Plan
 cardPlan bytes =
-    let h = headField bytes 1 in
-    let n = headField bytes 4 in
-    let m = headField bytes 5 in
-    let body = drop 6 (unpacked (widths h n m) (bitsOf bytes)) in
-    record {
-      night = record { lengths = take m body; inbound = take n (drop m body); tracks = headField bytes 2; room = headField bytes 3 };
-      steps = h;
-      codes = drop n (drop m body);
-    }
+    let h = headOn bytes in
+    let lengths = take (h .trains) (listsOn bytes) in
+    let byCar = drop (h .trains) (listsOn bytes) in
+    planOf lengths (take (h .cars) byCar) (h .tracks) (h .room) (h .steps) (drop (h .cars) byCar)
 
 -- the card's right length; the bits behind its last field are all 0, and it has no byte more
 unfoldable pub rightLength : List ℕ → ℕ
-rightLength bytes = cardLength (headField bytes 1) (headField bytes 4) (headField bytes 5)
+rightLength bytes = cardLength (headOn bytes)
 
 unfoldable pub endsRight : List ℕ → Bool
 endsRight bytes =
-    every (λ b. eqb b 0) (drop (sum (widths (headField bytes 1) (headField bytes 4) (headField bytes 5))) (bitsOf bytes)) &&
-    eqb (length bytes) (rightLength bytes)
+    every (λ b. eqb b 0) (drop (sum (widths (headOn bytes))) (bitsOf bytes)) && eqb (length bytes) (rightLength bytes)
 
--- 10: a card too short, A the bytes needed, as far as known
+-- 10: a card too short, A the bytes needed, as far as known; 11: the edition; 12: non-zero padding, or bytes after the end, A the
+-- card's right length
 abbrev pub bytesAsk : ℕ → List ℕ → Ask
 bytesAsk needed bytes = plain 10 (leb needed (length bytes)) needed (needed ≤ length bytes)
 
--- 11: the edition; 12: non-zero padding, or bytes after the end, A the card's right length
-abbrev pub editionAsk : List ℕ → Ask
-editionAsk bytes = plain 11 (eqb (headField bytes 0) 1) (headField bytes 0) (headField bytes 0 ≡ 1)
+abbrev pub editionAsk : ℕ → Ask
+editionAsk edition = plain 11 (eqb edition 1) edition (edition ≡ 1)
 
 abbrev pub endAsk : List ℕ → Ask
 endAsk bytes = plain 12 (endsRight bytes) (rightLength bytes) (endsRight bytes ≡ true)
 
--- The reader: a card, and three lent buffers, for lengths, inbound and codes.
-abbrev pub headCounts : Limits → List ℕ → List Ask
-headCounts L bytes = countAsks L (headField bytes 4) (headField bytes 5) (headField bytes 2) (headField bytes 3) (headField bytes 1)
+-- the counts of a head
+abbrev pub headCounts : Limits → Head → List Ask
+headCounts L h = countAsks L (h .cars) (h .trains) (h .tracks) (h .room) (h .steps)
+
+abbrev pub HeadWithin : Limits → Head → Type 0
+HeadWithin L h = InLimits L (h .cars) (h .trains) (h .tracks) (h .room) (h .steps)
+
+-- The reader: a card, and three lent buffers, for lengths, inbound and codes. The head of edition 1 takes up 5 bytes.
+abbrev pub sizeAsks : List ℕ → ℕ → ℕ → ℕ → List Ask
+sizeAsks bytes lengthsSize inboundSize codesSize =
+    let h = headOn bytes in
+    bytesAsk (rightLength bytes) bytes ∷
+    bufferAsk 1 (h .trains) lengthsSize ∷
+    bufferAsk 2 (h .cars) inboundSize ∷
+    bufferAsk 3 (h .cars) codesSize ∷
+    (listAsks (cardPlan bytes .night) ++ (endAsk bytes ∷ []))
 
 abbrev pub readerAsks : Limits → List ℕ → ℕ → ℕ → ℕ → List Ask
 readerAsks L bytes lengthsSize inboundSize codesSize =
+    let h = headOn bytes in
     bytesAsk 1 bytes ∷
-    editionAsk bytes ∷
-    bytesAsk 5 bytes ∷
-    (headCounts L bytes ++
-    (bytesAsk (rightLength bytes) bytes ∷
-    bufferAsk 1 (headField bytes 5) lengthsSize ∷
-    bufferAsk 2 (headField bytes 4) inboundSize ∷
-    bufferAsk 3 (headField bytes 4) codesSize ∷
-    (listAsks (cardPlan bytes .night) ++ (endAsk bytes ∷ []))))
+    editionAsk (h .edition) ∷
+    bytesAsk (headLength h) bytes ∷
+    (headCounts L h ++ sizeAsks bytes lengthsSize inboundSize codesSize)
 
 abbrev pub readerTests : Limits → List ℕ → ℕ → ℕ → ℕ → List Answer
 readerTests L bytes lengthsSize inboundSize codesSize = answers (readerAsks L bytes lengthsSize inboundSize codesSize)
@@ -154,35 +168,48 @@ readerTests L bytes lengthsSize inboundSize codesSize = answers (readerAsks L by
 -- all that the reader asks
 pub record Readable (L : Limits) (bytes : List ℕ) (lengthsSize inboundSize codesSize : ℕ) : Type 0 where
   pub some : 1 ≤ length bytes
-  pub edition : headField bytes 0 ≡ 1
-  pub head : 5 ≤ length bytes
-  pub counts : InLimits L (headField bytes 4) (headField bytes 5) (headField bytes 2) (headField bytes 3) (headField bytes 1)
+  pub edition : headOn bytes .edition ≡ 1
+  pub head : headLength (headOn bytes) ≤ length bytes
+  pub counts : HeadWithin L (headOn bytes)
   pub whole : rightLength bytes ≤ length bytes
-  pub lengths : headField bytes 5 ≤ lengthsSize
-  pub inbound : headField bytes 4 ≤ inboundSize
-  pub codes : headField bytes 4 ≤ codesSize
+  pub lengths : headOn bytes .trains ≤ lengthsSize
+  pub inbound : headOn bytes .cars ≤ inboundSize
+  pub codes : headOn bytes .cars ≤ codesSize
   pub lists : Listed (cardPlan bytes .night .lengths) (cardPlan bytes .night .inbound)
   pub ends : endsRight bytes ≡ true
 
 unfoldable pub readerVerdict : Limits → List ℕ → ℕ → ℕ → ℕ → Answer
 readerVerdict L bytes lengthsSize inboundSize codesSize = verdict (readerTests L bytes lengthsSize inboundSize codesSize) (says 0 0 0)
 
--- the card's numbers beside an acceptance, and 0 for each beside a refusal
-abbrev pub readerSays : Answer → ℕ → ℕ → ℕ → ℕ → ℕ → CardAnswer
-readerSays v h W C n m =
-    record { number = v .number; a = v .a; b = v .b; steps = h; tracks = W; room = C; cars = n; trains = m }
+-- the verdict, and the numbers of a head: the card's where it accepts, and 0 for each where it refuses
+abbrev pub noHead : Head
+noHead = headFrom []
+
+abbrev pub readerSays : Answer → Head → CardAnswer
+readerSays v h =
+    record {
+      number = v .number;
+      a = v .a;
+      b = v .b;
+      steps = h .steps;
+      tracks = h .tracks;
+      room = h .room;
+      cars = h .cars;
+      trains = h .trains;
+    }
 
 unfoldable pub readerAnswer : Limits → List ℕ → ℕ → ℕ → ℕ → CardAnswer
 readerAnswer L bytes lengthsSize inboundSize codesSize =
     let v = readerVerdict L bytes lengthsSize inboundSize codesSize in
-    cond (eqb (v .number) 0)
-    (readerSays v (headField bytes 1) (headField bytes 2) (headField bytes 3) (headField bytes 4) (headField bytes 5))
-    (readerSays v 0 0 0 0 0)
+    cond (eqb (v .number) 0) (readerSays v (headOn bytes)) (readerSays v noHead)
 
 -- what the reader promises; that it was given bytes stands with it, so that what follows from a promise needs no other premise
+abbrev pub judged : List ℕ → List ℕ → List ℕ → List ℕ → Answer
+judged bytes lengths₀ inbound₀ codes₀ = readerVerdict limits bytes (length lengths₀) (length inbound₀) (length codes₀)
+
 pub record Reads (bytes lengths₀ inbound₀ codes₀ : List ℕ) (r : CardAnswer) (lengths₁ inbound₁ codes₁ : List ℕ) : Type 0 where
   pub given : Bytes bytes
   pub answer : r ≡ readerAnswer limits bytes (length lengths₀) (length inbound₀) (length codes₀)
-  pub lengths : lengths₁ ≡ written (readerVerdict limits bytes (length lengths₀) (length inbound₀) (length codes₀)) (cardPlan bytes .night .lengths) lengths₀
-  pub inbound : inbound₁ ≡ written (readerVerdict limits bytes (length lengths₀) (length inbound₀) (length codes₀)) (cardPlan bytes .night .inbound) inbound₀
-  pub codes : codes₁ ≡ written (readerVerdict limits bytes (length lengths₀) (length inbound₀) (length codes₀)) (cardPlan bytes .codes) codes₀
+  pub lengths : lengths₁ ≡ written (judged bytes lengths₀ inbound₀ codes₀) (cardPlan bytes .night .lengths) lengths₀
+  pub inbound : inbound₁ ≡ written (judged bytes lengths₀ inbound₀ codes₀) (cardPlan bytes .night .inbound) inbound₀
+  pub codes : codes₁ ≡ written (judged bytes lengths₀ inbound₀ codes₀) (cardPlan bytes .codes) codes₀

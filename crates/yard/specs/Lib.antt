@@ -9,6 +9,7 @@ pub mod Derived
 pub mod Demands
 pub mod Answers
 pub mod Calls
+pub mod Bits
 pub mod Card
 pub mod Price
 pub mod Trials

@@ -58,3 +58,24 @@ pub struct PriceAnswer {
     pub b: usize,
     pub price: f64,
 }
+
+// The widths of a card's fields in bits, by its edition; 0 where an edition has no such field. The edition itself has 4 bits, a code
+// has as many as the plan has steps, and `number` is the width of a train's length and of an inbound number.
+pub struct Layout {
+    pub steps: usize,
+    pub tracks: usize,
+    pub room: usize,
+    pub cars: usize,
+    pub trains: usize,
+    pub number: usize,
+}
+
+// The numbers at the head of a card.
+pub struct Head {
+    pub edition: usize,
+    pub steps: usize,
+    pub tracks: usize,
+    pub room: usize,
+    pub cars: usize,
+    pub trains: usize,
+}

@@ -1,4 +1,5 @@
 -- The proof of `write`: a plan that is accepted is drawn, and else nothing is written.
+use mathlib.Core.Path.{refl}
 use denote.Ref.{now}
 use borrow.Author.Needs.{needs}
 use Rattle.yard.specs.Night.{Plan, planOf}
@@ -33,4 +34,4 @@ returns-2 c =
     writes-refused (plan start) (now (start .args .card)) (at-answer .answer .ensures) (c .if1 .left)
 
 pub write-spec : {M : Type 1} → statement M
-write-spec = tie.close (tie.spec (λ c κs. tt) draw-requires (λ c. search needs) returns returns-2)
+write-spec = tie.close (tie.spec (λ c κs. refl) draw-requires (λ c. search needs) returns returns-2)

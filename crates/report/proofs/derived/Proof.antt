@@ -1,11 +1,11 @@
 -- The proof of `derived`: what derive refuses is told, and the plan that it derives is drawn.
 use Prim.Native.Nat.{ℕ}
 use denote.Ref.{now}
-use lib.ListN.{length, length-replicate}
+use lib.ListN.{length}
 use borrow.Author.Needs.{needs}
 use Rattle.yard.specs.Night.{nightOf}
 use Rattle.report.specs.Programs.{cardIn}
-use Rattle.report.proofs.Adding.{adds-same}
+use Rattle.lines.proofs.Adding.{adds-same}
 use Rattle.report.proofs.Programs.{derive-refused, derived-front, drawn-refused, drawn-done}
 use Rattle.report.proofs.derived.Statement.{statement}
 use Rattle.report.proofs.derived.Tie as tie
@@ -16,7 +16,7 @@ returns c =
     let at-derive = at-then .before .before .before in
     let args = at-derive .before .before .before .before .before .args in
     let n = nightOf (now (args .lengths)) (now (args .inbound)) (args .tracks) (args .room) in
-    adds-same (derive-refused n (at-derive .derive .ensures) (length-replicate {A = ℕ} 512 0) (cardIn (length (now (args .out)))) (at-then .if1 .taken)) (c .before .before .refusal .ensures)
+    adds-same (derive-refused n (at-derive .derive .ensures) (cardIn (length (now (args .out)))) (at-then .if1 .taken)) (c .before .before .refusal .ensures)
 
 part-write-end : tie.Need-part-write-end
 part-write-end c =
@@ -24,7 +24,7 @@ part-write-end c =
     let at-derive = at-else .before .before .before in
     let args = at-derive .before .before .before .before .before .args in
     let n = nightOf (now (args .lengths)) (now (args .inbound)) (args .tracks) (args .room) in
-    derived-front n (at-derive .derive .ensures) (length-replicate {A = ℕ} 512 0) (at-else .if1 .left) .within
+    derived-front n (at-derive .derive .ensures) (at-else .if1 .left) .within
 
 returns-2 : tie.Need-returns-2
 returns-2 c =
@@ -34,7 +34,7 @@ returns-2 c =
     let at-derive = at-else .before .before .before in
     let args = at-derive .before .before .before .before .before .args in
     let n = nightOf (now (args .lengths)) (now (args .inbound)) (args .tracks) (args .room) in
-    drawn-refused n (at-derive .derive .ensures) (length-replicate {A = ℕ} 512 0) (at-else .if1 .left) (at-write .write .ensures) (at-then .if2 .taken) (c .before .before .refusal2 .ensures)
+    drawn-refused n (at-derive .derive .ensures) (at-else .if1 .left) (at-write .write .ensures) (at-then .if2 .taken) (c .before .before .refusal2 .ensures)
 
 returns-3 : tie.Need-returns-3
 returns-3 c =
@@ -43,23 +43,10 @@ returns-3 c =
     let at-derive = at-else .before .before .before in
     let args = at-derive .before .before .before .before .before .args in
     let n = nightOf (now (args .lengths)) (now (args .inbound)) (args .tracks) (args .room) in
-    drawn-done n (at-derive .derive .ensures) (length-replicate {A = ℕ} 512 0) (at-else .if1 .left) (at-write .write .ensures) (c .if2 .left)
+    drawn-done n (at-derive .derive .ensures) (at-else .if1 .left) (at-write .write .ensures) (c .if2 .left)
 
 pub derived-spec : {M : Type 1} → statement M
 derived-spec =
     tie.close
-    (tie.spec
-    (λ c. search needs)
-    (λ c κs. search needs)
-    (λ c κs. search needs)
-    (λ c. search needs)
-    returns
-    (λ c. search needs)
-    (λ c. search needs)
-    part-write-end
-    (λ c κs. search needs)
-    (λ c κs. search needs)
-    (λ c. search needs)
-    returns-2
-    (λ c. search needs)
-    returns-3)
+    (tie.spec (λ c. search needs) (λ c κs. search needs) (λ c κs. search needs) (λ c. search needs) returns (λ c. search needs) (λ c. search needs)
+    part-write-end (λ c κs. search needs) (λ c κs. search needs) (λ c. search needs) returns-2 (λ c. search needs) returns-3)

@@ -6,12 +6,9 @@ use Rattle.report.proofs.nightcard.Tie as tie
 
 returns : tie.Need-returns
 unfolding nightcardText
-returns c = c .before .before .put-out .ensures
+returns c = c .before .before .put-out .ensures .0
 
 pub nightcard-spec : {M : Type 1} → statement M
 nightcard-spec =
     tie.close
-    (tie.spec
-    (λ c κs. search needs)
-    (λ c. search needs)
-    returns)
+    (tie.spec (λ c κs. search needs) (λ c. search needs) returns)

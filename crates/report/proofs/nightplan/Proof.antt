@@ -6,12 +6,9 @@ use Rattle.report.proofs.nightplan.Tie as tie
 
 returns : tie.Need-returns
 unfolding nightplanIn
-returns c = c .before .before .put-out .ensures
+returns c = c .before .before .put-out .ensures .0
 
 pub nightplan-spec : {M : Type 1} → statement M
 nightplan-spec =
     tie.close
-    (tie.spec
-    (λ c κs. search needs)
-    (λ c. search needs)
-    returns)
+    (tie.spec (λ c κs. search needs) (λ c. search needs) returns)

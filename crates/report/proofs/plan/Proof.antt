@@ -1,9 +1,10 @@
 -- The proof of `plan`: what check refuses is told, and what it accepts is put out.
+use native.Mathlib.Omega.{arith}
 use denote.Ref.{now}
 use borrow.Author.Needs.{needs}
 use Rattle.yard.specs.Night.{planOf}
-use Rattle.report.proofs.Adding.{adds-same, adds-then}
-use Rattle.report.proofs.Programs.{check-done, plan-refused, plan-done}
+use Rattle.lines.proofs.Adding.{adds-same, adds-then}
+use Rattle.report.proofs.Programs.{plan-good, plan-refused, plan-done}
 use Rattle.report.proofs.plan.Statement.{statement}
 use Rattle.report.proofs.plan.Tie as tie
 
@@ -22,7 +23,8 @@ trains-requires c κs =
     let at-check = at-else .before .before in
     let args = at-check .before .before .before .before .before .args in
     let p = planOf (now (args .lengths)) (now (args .inbound)) (args .tracks) (args .room) (args .steps) (now (args .codes)) in
-    (at-counts .counts .ensures .within, check-done p (at-check .check .ensures) (at-else .if1 .left))
+    let good = plan-good p (at-check .check .ensures) (at-else .if1 .left) in
+    (at-counts .counts .ensures .within, omega (arith, good .listed .adds, good .cars))
 
 returns-2 : tie.Need-returns-2
 returns-2 c =
@@ -37,12 +39,5 @@ returns-2 c =
 pub plan-spec : {M : Type 1} → statement M
 plan-spec =
     tie.close
-    (tie.spec
-    (λ c κs. search needs)
-    (λ c κs. search needs)
-    (λ c. search needs)
-    returns
-    (λ c κs. search needs)
-    trains-requires
-    (λ c. search needs)
+    (tie.spec (λ c κs. search needs) (λ c κs. search needs) (λ c. search needs) returns (λ c κs. search needs) trains-requires (λ c. search needs)
     returns-2)

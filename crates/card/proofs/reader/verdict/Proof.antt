@@ -5,30 +5,30 @@ use lib.ListN.{length}
 use denote.Ref.{now}
 use borrow.Author.Needs.{needs}
 use Rattle.yard.specs.Answers.{says, verdict}
-use Rattle.yard.specs.Card.{cardLength}
-use Rattle.card.specs.Heads.{headOf, headTests, sizeTests}
-use Rattle.card.specs.Plans.{Short}
-use Rattle.card.proofs.Reading.{head-short, bits-bounded, refused-head, refused-sizes, lists-then-end}
+use Rattle.yard.specs.Card.{headOn}
+use Rattle.card.specs.Format.{Bounded}
+use Rattle.card.specs.Reading.{headTests, sizeTests}
+use Rattle.card.proofs.Places.{end-bounded}
+use Rattle.card.proofs.Reading.{head-bounded, refused-head, refused-sizes, lists-then-end}
 use Rattle.card.proofs.reader.verdict.Statement.{statement}
 use Rattle.card.proofs.reader.verdict.Tie as tie
 
 -- the answers of the first two parts, for the card's own head
 first : (c : tie.After-head-tests)
-    → c .head-tests .result ≡ verdict (headTests (length (now (c .before .before .before .before .args .card))) (headOf (now (c .before .before .before .before .args .card)))) (says 0 0 0)
+    → let args = c .before .before .before .before .args in
+    c .head-tests .result ≡ verdict (headTests (length (now (args .card))) (headOn (now (args .card)))) (says 0 0 0)
 first c = rw (c .before .before .before .before .pre .0) at (c .head-tests .ensures)
 
 second : (c : tie.After-size-tests)
     → let args = c .before .before .before .before .before .before .before .args in
-    c .size-tests .result ≡ verdict (sizeTests (length (now (args .card))) (headOf (now (args .card))) (args .lengths) (args .inbound) (args .codes)) (says 0 0 0)
+    c .size-tests .result ≡ verdict (sizeTests (length (now (args .card))) (headOn (now (args .card))) (args .lengths) (args .inbound) (args .codes)) (says 0 0 0)
 second c = rw (c .before .before .before .before .before .before .before .pre .0) at (c .size-tests .ensures)
 
 -- the counts have passed
-short : (c : tie.Else1)
-    → let head = c .before .before .before .before .before .before .args .head in
-    Short (head .steps) (head .cars) (head .trains)
-short c =
+bounded : (c : tie.Else1) → Bounded (c .before .before .before .before .before .before .args .head)
+bounded c =
     let args = c .before .before .before .before .before .before .args in
-    head-short (length (now (args .card))) (args .head) (sym (ap (λ r. r .number) (c .before .before .head-tests .ensures)) ∙ c .if1 .left)
+    head-bounded (length (now (args .card))) (args .head) (sym (ap (λ r. r .number) (c .before .before .head-tests .ensures)) ∙ c .if1 .left)
 
 returns : tie.Need-returns
 returns c =
@@ -39,40 +39,46 @@ returns c =
 
 returns-2 : tie.Need-returns-2
 returns-2 c =
-    let at-else = c .before .before .before in
-    let args = at-else .before .before .before .before .before .before .args in (
-      refused-sizes (now (args .card)) (args .lengths) (args .inbound) (args .codes) (first (at-else .before .before)) (at-else .if1 .left) (second (c .before .before))
+    let else1 = c .before .before .before in
+    let args = else1 .before .before .before .before .before .before .args in (
+      refused-sizes (now (args .card)) (args .lengths) (args .inbound) (args .codes) (first (else1 .before .before)) (else1 .if1 .left)
+          (second (c .before .before))
           (c .if2 .taken),
       λ passed. absurd (c .if2 .taken passed),
     )
 
 returns-3 : tie.Need-returns-3
-unfolding cardLength
 returns-3 c =
-    let at-lists = c .before .before .before .before .before in
-    let at-test = at-lists .before .before .before in
-    let at-bits = at-test .before .before in
-    let at-else2 = at-bits .before in
-    let at-else = at-else2 .before .before .before in
-    let start = at-else .before .before .before .before .before .before in
+    let listed = c .before .before .before .before .before in
+    let tested = listed .before .before .before in
+    let ended = tested .before .before in
+    let else2 = ended .before .before in
+    let else1 = else2 .before .before .before in
+    let start = else1 .before .before .before .before .before .before in
     let args = start .args in (
-      rw (c .unless .ensures, at-lists .lists .ensures .0, at-test .test .ensures, at-test .before .ends .ensures, at-bits .bits .ensures, start .pre .0)
-          (lists-then-end (now (args .card)) (args .lengths) (args .inbound) (args .codes) (first (at-else .before .before)) (at-else .if1 .left) (second (at-else2 .before .before)) (at-else2 .if2 .left)),
-      λ _. at-lists .lists .ensures .1,
+      rw (
+        c .unless .ensures,
+        listed .lists .ensures .0,
+        tested .test .ensures,
+        tested .before .length .ensures,
+        ended .ends .ensures,
+        ended .before .places-of .ensures,
+        start .pre .0,
+      )
+          (lists-then-end (now (args .card)) (args .lengths) (args .inbound) (args .codes) (first (else1 .before .before)) (else1 .if1 .left)
+          (second (else2 .before .before))
+          (else2 .if2 .left)),
+      λ _. listed .lists .ensures .1,
     )
 
 lists-requires : tie.Need-lists-requires
 lists-requires c κs =
-    let at-else = c .before .before .before .before .before .before .before .before in
-    let within = short at-else in
-    let start = at-else .before .before .before .before .before .before in
-    (record { steps = omega arith; cars = within .cars; trains = within .trains }, omega (arith, within .trains), omega (arith, within .cars))
+    let else1 = c .before .before .before .before .before .before .before .before .before in
+    let within = bounded else1 in
+    (within, omega (arith, within .trains), omega (arith, within .cars))
 
 ends-requires : tie.Need-ends-requires
-ends-requires c κs = omega (arith, c .bits .ensures, bits-bounded (short (c .before .before .before .before)))
-
-add-test : tie.Need-add-test
-add-test c = omega (arith, c .before .bits .ensures, bits-bounded (short (c .before .before .before .before .before)))
+ends-requires c κs = rw (c .places-of .ensures) (omega (arith, end-bounded (bounded (c .before .before .before .before))))
 
 pub verdict-spec : {M : Type 1} → statement M
 verdict-spec =
@@ -80,11 +86,11 @@ verdict-spec =
     (tie.spec
     (λ c κs. search needs)
     returns
-    (λ c κs. short c)
+    (λ c κs. bounded c)
     returns-2
-    (λ c κs. short (c .before .before .before))
+    (λ c κs. bounded (c .before .before .before))
     ends-requires
-    add-test
+    (λ c κs. bounded (c .before .before .before .before .before))
     (λ c κs. search needs)
     lists-requires
     (λ c κs. search needs)

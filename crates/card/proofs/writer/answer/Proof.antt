@@ -1,37 +1,44 @@
 -- The proof of `answer`: the tests are made in parts, and a part that refuses is the answer.
-use mathlib.Core.Path.{_∙_}
+use mathlib.Core.Path.{_≡_, ap, _∙_}
 use native.Mathlib.Omega.{arith}
-use lib.ListN.{length}
 use denote.Ref.{now}
-use Rattle.yard.specs.Night.{Plan, planOf}
-use Rattle.card.specs.Plans.{Short}
-use Rattle.card.proofs.Writing.{refused-counts, counts-short, refused-lists, refused-coded, codes-then-room}
+use Rattle.yard.specs.Limits.{limits}
+use Rattle.yard.specs.Night.{Plan}
+use Rattle.yard.specs.Answers.{says, verdict}
+use Rattle.yard.specs.Calls.{nightCounts}
+use Rattle.yard.specs.Card.{cardLength, headOf}
+use Rattle.card.specs.Format.{Bounded}
+use Rattle.card.specs.Writing.{planWith}
+use Rattle.card.proofs.Writing.{refused-counts, counts-bounded, refused-lists, refused-coded, codes-then-room}
 use Rattle.card.proofs.writer.answer.Statement.{statement}
 use Rattle.card.proofs.writer.answer.Tie as tie
 
 abbrev plan : tie.Start → Plan
-plan c =
-    planOf (now (c .args .lengths)) (now (c .args .inbound)) (c .args .tracks) (c .args .room) (c .args .steps) (now (c .args .codes))
+plan c = planWith (c .args .head) (now (c .args .lengths)) (now (c .args .inbound)) (now (c .args .codes))
+
+-- the answer to the counts of the head is that to the counts of the plan
+counted : (c : tie.After-counts)
+    → let p = plan (c .before .before .before .before) in
+    c .counts .result ≡ verdict (nightCounts limits (p .night) (p .steps)) (says 0 0 0)
+counted c = rw (c .before .before .before .before .pre) at (c .counts .ensures)
 
 -- the counts have passed
-short : (c : tie.Else1)
-    → let args = c .before .before .before .before .before .before .args in
-    Short (args .steps) (length (now (args .inbound))) (length (now (args .lengths)))
-short c =
+bounded : (c : tie.Else1) → Bounded (headOf (plan (c .before .before .before .before .before .before)))
+bounded c =
     let start = c .before .before .before .before .before .before in
-    counts-short (plan start) (start .args .size) (c .before .before .counts .ensures) (c .if1 .left)
+    counts-bounded (plan start) (start .args .size) (counted (c .before .before)) (c .if1 .left)
 
 returns : tie.Need-returns
 returns c =
     let start = c .before .before .before .before .before .before in
-    refused-counts (plan start) (start .args .size) (c .before .before .counts .ensures) (c .if1 .taken)
+    refused-counts (plan start) (start .args .size) (counted (c .before .before)) (c .if1 .taken)
 
 returns-2 : tie.Need-returns-2
 returns-2 c =
     let at-lists = c .before .before in
     let at-counts = at-lists .before .before .before in
     let start = at-counts .before .before .before .before in
-    refused-lists (plan start) (start .args .size) (at-counts .counts .ensures) (at-lists .before .if1 .left) (at-lists .lists .ensures) (c .if2 .taken)
+    refused-lists (plan start) (start .args .size) (counted at-counts) (at-lists .before .if1 .left) (at-lists .lists .ensures) (c .if2 .taken)
 
 returns-3 : tie.Need-returns-3
 returns-3 c =
@@ -40,7 +47,8 @@ returns-3 c =
     let at-counts = at-lists .before .before .before in
     let start = at-counts .before .before .before .before in
     c .answer .ensures
-    ∙ refused-coded (plan start) (start .args .size) (at-counts .counts .ensures) (at-lists .before .if1 .left) (at-lists .lists .ensures) (at-else .if2 .left) (c .before .if3 .taken)
+    ∙ refused-coded (plan start) (start .args .size) (counted at-counts) (at-lists .before .if1 .left) (at-lists .lists .ensures) (at-else .if2 .left)
+    (c .before .if3 .taken)
 
 returns-4 : tie.Need-returns-4
 returns-4 c =
@@ -49,16 +57,28 @@ returns-4 c =
     let at-lists = at-else .before .before in
     let at-counts = at-lists .before .before .before in
     let start = at-counts .before .before .before .before in
-    rw (c .unless2 .ensures, c .before .codes .ensures, c .before .before .unless .ensures, c .before .before .before .answer2 .ensures, c .before .before .before .before .list .ensures)
-    (codes-then-room (plan start) (start .args .size) (at-counts .counts .ensures) (at-lists .before .if1 .left) (at-lists .lists .ensures) (at-else .if2 .left)
-    (at-length .before .if3 .left) (at-length .length .result) (at-length .length .ensures))
+    let long : at-length .length .result ≡ cardLength (headOf (plan start)) = at-length .length .ensures ∙ ap cardLength (start .pre) in
+    rw (
+      c .unless2 .ensures,
+      c .before .codes .ensures,
+      c .before .before .unless .ensures,
+      c .before .before .before .answer2 .ensures,
+      c .before .before .before .before .list .ensures,
+    )
+    (codes-then-room (plan start) (start .args .size) (counted at-counts) (at-lists .before .if1 .left) (at-lists .lists .ensures) (at-else .if2 .left)
+    (at-length .before .if3 .left) (at-length .length .result) long)
 
 lists-requires : tie.Need-lists-requires
-lists-requires c κs = (short c .trains, short c .cars)
+lists-requires c κs = (bounded c .trains, bounded c .cars)
+
+length-requires : tie.Need-length-requires
+length-requires c κs =
+    let at-else = c .before .before .before .before in
+    rw (at-else .before .before .before .before .before .before .pre) (bounded at-else)
 
 codes-requires : tie.Need-codes-requires
 codes-requires c κs =
-    let within = short (c .before .before .before .before .before .before .before .before) in
+    let within = bounded (c .before .before .before .before .before .before .before .before) in
     omega (arith, within .steps)
 
 pub answer-spec : {M : Type 1} → statement M
@@ -71,7 +91,7 @@ answer-spec =
     returns-2
     (λ c κs. tt)
     returns-3
-    (λ c κs. short (c .before .before .before .before))
+    length-requires
     (λ c κs. tt)
     (λ c κs. tt)
     (λ c κs. tt)

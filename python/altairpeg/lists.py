@@ -1,0 +1,122 @@
+"""Lists and numbers as the library takes them.
+
+Python's whole numbers are wider than C's. ctypes would cut off what does not fit, and the library would answer for another
+night. So a number that does not fit goes over as a stand-in that does, of which document 01 says the same at that place:
+
+- an inbound number: a negative one as 0, a large one as 65535, neither of which is a car (refusal 3);
+- a length: a negative one as 0, a train without cars (2, that train); a large one as 65535, more than all cars (2, the sum);
+- a code: as 65535, which is not below 2^h for any h of 0 to 8 (7);
+- a count, 64 bits wide: as the largest, which is above each range (1);
+- seconds: what a double does not hold exactly as not-a-number (13).
+
+The order of the tests stays the library's own. What isn't a whole number at all raises `InputError`.
+"""
+
+from __future__ import annotations
+
+import math
+from array import array
+from collections.abc import Mapping
+from ctypes import c_double
+from itertools import islice
+from operator import index
+from typing import Any, SupportsFloat, SupportsIndex
+
+from .errors import InputError, shown
+from .nights import Numbers
+
+LARGEST = 2**16 - 1
+LARGEST_COUNT = 2**64 - 1
+# No list of document 01 has as many items, so what follows behind them never decides.
+MOST = 2**16
+# The formats of items that memoryview turns into Python's numbers.
+_READABLE = frozenset("bBhHiIlLqQnN?fd")
+
+
+def whole(name: str, given: SupportsIndex) -> int:
+    """A whole number of any size."""
+    try:
+        return index(given)
+    except TypeError:
+        raise InputError(f"{name} is {shown(given)}, not a whole number") from None
+
+
+def count(name: str, given: SupportsIndex) -> int:
+    """A count, or its stand-in."""
+    number = whole(name, given)
+    return number if 0 <= number <= LARGEST_COUNT else LARGEST_COUNT
+
+
+def seconds(name: str, given: SupportsFloat | SupportsIndex) -> float:
+    """Seconds as a double, or their stand-in."""
+    try:
+        held = c_double(given).value  # type: ignore[arg-type]
+    except TypeError:
+        raise InputError(f"{name} is {shown(given)}, not a number of seconds") from None
+    except (OverflowError, ValueError):
+        return math.nan
+    return held if held == given else math.nan
+
+
+def numbers(name: str, given: Numbers, negative: int = 0) -> array[int]:
+    """A list, or its stand-in, in which `negative` stands for every negative number."""
+    items = given if type(given) in (list, tuple) else _items(name, given)
+    try:
+        return array("H", items)
+    except (TypeError, OverflowError):
+        # Only now item by item: the message names the place.
+        return array("H", [_fitting(f"{name}[{place}]", item, negative) for place, item in enumerate(items)])
+
+
+def zeros(size: int) -> array[int]:
+    """A list to be written."""
+    return array("H", bytes(2 * size))
+
+
+def card(given: bytes | bytearray | memoryview) -> array[int]:
+    """The bytes of a card. A list or a number is refused: bytes(5) would be a card of five zero bytes."""
+    try:
+        view = memoryview(given)
+    except (TypeError, ValueError):
+        raise InputError(f"card is {shown(given)}, not bytes") from None
+    if view.itemsize != 1 or view.ndim != 1:
+        raise InputError(f"card is {shown(given)}, not a row of bytes")
+    return array("B", view.tobytes())
+
+
+def _fitting(name: str, item: SupportsIndex, negative: int) -> int:
+    """An item, or its stand-in."""
+    number = whole(name, item)
+    if number < 0:
+        return negative
+    return min(number, LARGEST)
+
+
+def _items(name: str, given: Any) -> list[Any] | bytes:
+    """The items of what is neither list nor tuple, as a list; those of a buffer of C's own type as they lie in memory."""
+    try:
+        return _buffered(given) if _is_buffer(given) else _listed(given)
+    except (TypeError, ValueError, NotImplementedError):
+        raise InputError(f"{name} is {shown(given)}, not a list of whole numbers") from None
+
+
+def _is_buffer(given: Any) -> bool:
+    """Whether the items lie in memory in a way that Python reads by itself."""
+    try:
+        view = memoryview(given)
+    except TypeError:
+        return False
+    return view.ndim == 1 and view.format in _READABLE
+
+
+def _buffered(given: Any) -> list[Any] | bytes:
+    """The items of a buffer, as numpy has them, without a loop in Python."""
+    view = memoryview(given)[:MOST]
+    return view.tobytes() if view.format == "H" else view.tolist()
+
+
+def _listed(given: Any) -> list[Any]:
+    """The items of a range, a deque and the like. A set has no order, a mapping gives keys, a generator can be read only once."""
+    if not (hasattr(given, "__len__") and hasattr(given, "__getitem__")) or isinstance(given, Mapping):
+        raise TypeError
+    return list(islice(given, MOST))

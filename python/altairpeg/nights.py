@@ -1,0 +1,77 @@
+"""Nights, plans, and what the calls answer."""
+
+from __future__ import annotations
+
+from typing import Any, Iterator, NamedTuple, Protocol
+
+from .errors import InputError
+
+
+class Numbers(Protocol):
+    """A list of whole numbers: a list or tuple, an array, a memoryview or bytes, a numpy array, a range."""
+
+    def __len__(self) -> int: ...
+
+    def __iter__(self) -> Iterator[Any]: ...
+
+    def __getitem__(self, place: Any, /) -> Any: ...
+
+
+class Night(NamedTuple):
+    """The lengths of the outbound trains, the inbound order of the cars, the sorting tracks and the room on each."""
+
+    lengths: Numbers
+    inbound: Numbers
+    tracks: int
+    room: int
+
+
+class Plan(NamedTuple):
+    """A night, its steps, and one code for each car, in car order."""
+
+    night: Night
+    steps: int
+    codes: Numbers
+
+
+class _Derived(NamedTuple):
+    steps: int
+    passes: int
+    codes: list[int]
+
+
+class Derived(_Derived):
+    """The steps of a derived plan, its hump passes, and the code of each car; `plan` is the plan as a whole."""
+
+    # Beside the tuple, not in it: three names unpack as they always did.
+    night: Night | None = None
+
+    @property
+    def plan(self) -> Plan:
+        """The derived plan, of the night that `derive` was given."""
+        if self.night is None:
+            raise InputError("this Derived does not come from derive, so it has no night")
+        return Plan(self.night, self.steps, self.codes)
+
+
+class Checked(NamedTuple):
+    """The hump passes of an accepted plan, and the cars of its fullest pull."""
+
+    passes: int
+    fullest_pull: int
+
+
+class Stage(NamedTuple):
+    """The yard at a stage: the passes so far, and each car's track and place there, in car order.
+
+    The destination of train t is track `tracks + t - 1` of the night; the place at the front is 0.
+    """
+
+    passes: int
+    tracks: list[int]
+    places: list[int]
+
+    def cars_on(self, track: int) -> list[int]:
+        """The cars on a track, front first."""
+        standing = sorted((place, car) for car, (on, place) in enumerate(zip(self.tracks, self.places), 1) if on == track)
+        return [car for _, car in standing]

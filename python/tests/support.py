@@ -1,0 +1,78 @@
+"""What the tests share: night N and its card, a scratch folder, and the command line as a process of its own."""
+
+import os
+import subprocess
+import sys
+import tempfile
+import unittest
+from pathlib import Path
+
+from altairpeg import Night, Refusal
+
+PYTHON = Path(__file__).resolve().parent.parent
+INBOUND = [3, 6, 1, 5, 2, 4]
+CODES = [0, 0, 1, 1, 2, 3]
+CARD = bytes.fromhex("12200C060203006030020280 40202D80")
+# The plan of case 6, which check refuses with 9, car 3; and a card that the reader refuses with 10, 16 bytes.
+DISORDERED = [0, 0, 0, 1, 2, 3]
+SHORT = CARD[:15]
+
+
+def n(tracks=2, room=512):
+    """Night N, one train."""
+    return Night([6], INBOUND, tracks, room)
+
+
+def turned(cars, tracks):
+    """One train of cars that come in the wrong way round."""
+    return Night([cars], list(range(cars, 0, -1)), tracks, 512)
+
+
+def told(refusal):
+    """The number and the details of a refusal."""
+    return (refusal.number, refusal.a, refusal.b)
+
+
+def python(*arguments, **options):
+    """Runs Python with this package, in a process of its own and from another folder; `set` adds to the environment."""
+    environment = {**os.environ, "PYTHONPATH": str(PYTHON), **options.pop("set", {})}
+    command = [sys.executable, *map(os.fspath, arguments)]
+    return subprocess.run(command, env=environment, **{"capture_output": True, "cwd": os.sep, **options})
+
+
+def altairpeg(*arguments, **options):
+    """Runs the command line, in a process of its own."""
+    return python("-m", "altairpeg", *arguments, **options)
+
+
+def skipped(missing, word):
+    """Skips what can't be tried here, and says so even where unittest shows but a letter for it."""
+    if missing:
+        print(f"skipped: {word}", file=sys.stderr)
+    return unittest.skipIf(missing, word)
+
+
+class Scratch(unittest.TestCase):
+    """Tests with a folder of their own, whose name has a blank."""
+
+    def setUp(self):
+        kept = tempfile.TemporaryDirectory(prefix="altairpeg test ")
+        self.addCleanup(kept.cleanup)
+        self.folder = Path(kept.name)
+
+    def file(self, name, data):
+        """A file in the folder."""
+        path = self.folder / name
+        path.write_bytes(data)
+        return path
+
+    def refused(self, number, a, b, call, *given):
+        """The refusal of a call, whose number and details are these."""
+        with self.assertRaises(Refusal) as caught:
+            call(*given)
+        self.assertEqual(told(caught.exception), (number, a, b))
+        return caught.exception
+
+    def ran(self, run, status, out="", err=""):
+        """A process ended with this status and said this; bytes that are no text are compared by themselves."""
+        self.assertEqual((run.stdout.decode(), run.stderr.decode(), run.returncode), (out, err, status))

@@ -1,0 +1,120 @@
+"""The picture: well-formed, complete, and readable by its numbers; the README's is current."""
+
+import re
+import unittest
+from pathlib import Path
+from xml.etree import ElementTree
+
+from altairpeg import Night, Plan, read_card
+from altairpeg.colours import COLOURS, band, contrast, fill, number_colour
+from altairpeg.story import tell
+from altairpeg.svg import LETTER, picture
+
+from drawings import EARLY, OUT_OF_ORDER, OVERFILLED, many, show
+from support import CARD, PYTHON, Scratch
+
+ALL_EARLY = Plan(Night([12], list(range(1, 13)), 1, 12), 2, [2] * 12)
+KEPT = PYTHON.parent / "docs" / "first-card.svg"
+NAME = "{http://www.w3.org/2000/svg}"
+TRAINS = range(1, 65)
+
+
+def words(drawn):
+    """Every text of a picture, in order."""
+    return [text.text for text in ElementTree.fromstring(drawn).iter(f"{NAME}text")]
+
+
+class Picture(unittest.TestCase):
+    def test_kept_picture_is_current(self):
+        self.assertEqual(KEPT.read_text(), picture(tell(read_card(CARD))), "make it anew: python3 -m altairpeg show --svg ../docs/first-card.svg CARD, in python/")
+
+    def test_case_1_in_words(self):
+        told = words(picture(tell(read_card(CARD))))
+        self.assertEqual(told[0], "A night of 6 cars and 1 train, stage by stage")
+        self.assertIn("train 1: cars 1-6", told)
+        for line in ("Stage 0, 6 passes; step 0 pulls track 0", "Stage 1, 9 passes; step 1 pulls track 1", "Stage 2, 11 passes", "Accepted: 11 passes, fullest pull 3"):
+            self.assertIn(line, told)
+
+    def test_each_stage_has_each_car(self):
+        for plan in (read_card(CARD), many(4, 15), many(8, 64)):
+            told = words(picture(tell(plan)))
+            for car in plan.night.inbound:
+                self.assertEqual(told.count(str(car)), plan.steps + 2, "once inbound, and once at each stage")
+
+    def test_where_it_fails(self):
+        for plan, line, car in (
+            (OVERFILLED, "! overfilled: 3 cars, and track 0 has room for 2", "4!"),
+            (EARLY, "! too early for car 4: a code with 0 at step 0", "4!"),
+            (OUT_OF_ORDER, "! out of order: car 3 stands before car 2", "3!"),
+        ):
+            told = words(picture(tell(plan)))
+            self.assertIn(line, told)
+            self.assertEqual(told.count(car), 1)
+
+    def test_nothing_leaves_the_picture(self):
+        for plan in (Plan(Night([1], [1], 1, 1), 0, [0]), many(4, 15), many(64, 8), many(1, 512, 8), OVERFILLED, ALL_EARLY):
+            root = ElementTree.fromstring(picture(tell(plan)))
+            width, height = int(root.get("width")), int(root.get("height"))
+            for box in root.iter(f"{NAME}rect"):
+                right, foot = int(box.get("x", 0)) + int(box.get("width")), int(box.get("y", 0)) + int(box.get("height"))
+                self.assertTrue(right <= width and foot <= height, box.attrib)
+            for text in root.iter(f"{NAME}text"):
+                if text.get("text-anchor") is None:
+                    right = int(text.get("x")) + len(text.text) * int(text.get("font-size")) * LETTER
+                    self.assertTrue(right <= width and int(text.get("y")) <= height, text.text)
+
+    def test_nothing_from_outside(self):
+        drawn = picture(tell(many(64, 8)))
+        self.assertNotRegex(drawn, r"href|url\(|<script|<style|@import")
+        self.assertEqual(re.findall(r"https?://[^\"]*", drawn), ["http://www.w3.org/2000/svg"])
+
+
+class Colours(unittest.TestCase):
+    def test_each_train_has_a_look_of_its_own(self):
+        self.assertEqual(len({(fill(train), band(train)) for train in TRAINS}), 64)
+        self.assertTrue(all(band(train) != fill(train) for train in TRAINS))
+
+    def test_numbers_can_be_read(self):
+        self.assertEqual(len(set(COLOURS)), 8)
+        for train in TRAINS:
+            self.assertGreaterEqual(contrast(number_colour(train), fill(train)), 4.5)
+
+
+class Command(Scratch):
+    def drawn(self, name, given=CARD):
+        return show(given, "--svg", name)
+
+    def test_file_and_standard_output(self):
+        self.ran(self.drawn(self.folder / "a picture.svg"), 0)
+        self.assertEqual(self.drawn("-").stdout, (self.folder / "a picture.svg").read_bytes())
+        self.assertEqual([file.name for file in self.folder.iterdir()], ["a picture.svg"])
+
+    def test_refused_plan_is_drawn_and_told(self):
+        self.ran(self.drawn(self.folder / "x.svg", OVERFILLED), 1, err="check: refused 6 0 3: a track overfilled (step 0, 3 cars)\n")
+        ElementTree.parse(self.folder / "x.svg")
+
+    def test_refused_card_leaves_the_old_picture(self):
+        old = self.file("x.svg", b"old")
+        self.assertEqual(self.drawn(old, b"").returncode, 1)
+        self.assertEqual(old.read_bytes(), b"old")
+
+    def test_link_is_followed_and_mode_kept(self):
+        old, link = self.file("x.svg", b"old"), self.folder / "link"
+        old.chmod(0o640)
+        link.symlink_to(old.name)
+        self.ran(self.drawn(link), 0)
+        self.assertTrue(link.is_symlink())
+        self.assertEqual(old.stat().st_mode & 0o777, 0o640)
+        ElementTree.parse(old)
+
+    def test_places_that_take_no_picture(self):
+        for name in (self.folder, self.folder / "none" / "x.svg", "/dev/full"):
+            run = self.drawn(name)
+            self.assertEqual((run.returncode, run.stdout, len(run.stderr.splitlines())), (2, b"", 1), run.stderr)
+            self.assertIn(str(name).encode(), run.stderr)
+        self.assertEqual(list(self.folder.iterdir()), [])
+        self.assertTrue(Path("/dev/full").is_char_device())
+
+
+if __name__ == "__main__":
+    unittest.main()
