@@ -1,14 +1,13 @@
 -- The proof of `first_above`: what is left of the search finds what the whole search finds.
-use mathlib.Core.Path.{_≡_, sym, ap, _∙_}
-use Prim.Native.Nat.{ℕ, _-_, _^_, _≤_, _<_}
+use mathlib.Core.Path.{_≡_, ap, _∙_}
+use Prim.Native.Nat.{_-_, _^_, _≤_, _<_}
 use denote.Ref.{now}
-use native.Mathlib.Nat.{sub-zero}
 use native.Mathlib.Omega.{arith}
 use lib.ListN.{length, getD}
 use borrow.Author.Tests.{lt-ltb, le-ltb}
 use Rattle.yard.specs.Words.{first}
 use Rattle.yard.specs.Codes.{fewestTracks}
-use Rattle.yard.proofs.First.{first-hits, first-goes, first-ends}
+use Rattle.scan.proofs.Left.{left-start, left-hits, left-goes, left-ends}
 use Rattle.codes.specs.Wider.{wider, firstWider}
 use Rattle.codes.proofs.Gap.{gaps-length, told-fewest}
 use Rattle.codes.proofs.first_above.Statement.{statement}
@@ -23,7 +22,7 @@ abbrev μ-loop : tie.MeasureT-loop
 loop-holds : tie.Need-loop-holds Inv-loop μ-loop
 loop-holds c =
     let args = c .before .before .args in
-    (omega arith, ap (λ (n : ℕ). first (wider (args .tracks) (now (args .codes))) n 0) (sub-zero (length (now (args .codes)))))
+    (omega arith, left-start (wider (args .tracks) (now (args .codes))) (length (now (args .codes))) 0)
 
 -- the code at hand is one of eight steps, and the table has its fewest tracks
 small : (c : tie.In-loop Inv-loop μ-loop) → getD (now (c .before .before .before .before .args .codes)) (c .before .loop .i) 0 < 2 ^ 8
@@ -43,31 +42,25 @@ told c =
 
 returns : tie.Need-returns Inv-loop μ-loop
 returns c =
-    let at-loop = c .before .before .before .before .before in
-    let args = at-loop .before .before .before .args in
-    let codes = now (args .codes) in
-    let i = at-loop .loop .i in
-    sym (first-hits (wider (args .tracks) codes) (length codes) i i (c .before .before .before .before .loop-test .taken)
-    (lt-ltb (args .tracks) (fewestTracks 8 (getD codes i 0)) (omega (arith, told (c .before), c .if1 .taken)))) ∙ at-loop .loop .inv .1
+    let in-loop = c .before .before .before .before in
+    let args = in-loop .before .before .before .before .args in
+    let needs = fewestTracks 8 (getD (now (args .codes)) (in-loop .before .loop .i) 0) in
+    left-hits _ _ _ _ _ (in-loop .before .loop .inv .1) (in-loop .loop-test .taken)
+    (lt-ltb (args .tracks) needs (omega (arith, told (c .before), c .if1 .taken)))
 
 loop-again : tie.Need-loop-again Inv-loop μ-loop
 loop-again c =
-    let at-loop = c .before .before .before .before .before in
-    let args = at-loop .before .before .before .args in
-    let codes = now (args .codes) in
-    let i = at-loop .loop .i in (
-      omega arith,
-      sym (first-goes (wider (args .tracks) codes) (length codes) i i (c .before .before .before .before .loop-test .taken)
-          (le-ltb (args .tracks) (fewestTracks 8 (getD codes i 0)) (omega (arith, told (c .before), c .if1 .left)))) ∙ at-loop .loop .inv .1,
-    )
+    let in-loop = c .before .before .before .before in
+    let args = in-loop .before .before .before .before .args in
+    let needs = fewestTracks 8 (getD (now (args .codes)) (in-loop .before .loop .i) 0) in
+    let enough = le-ltb (args .tracks) needs (omega (arith, told (c .before), c .if1 .left)) in
+    (omega arith, left-goes _ _ _ _ _ (in-loop .before .loop .inv .1) (in-loop .loop-test .taken) enough)
 
 returns-2 : tie.Need-returns-2 Inv-loop μ-loop
 returns-2 c =
-    let args = c .before .before .before .before .args in
-    let codes = now (args .codes) in
-    let i = c .before .loop .i in
-    let end : length codes ≡ i = omega (arith, c .before .loop .inv .0) in
-    end ∙ (sym (first-ends (wider (args .tracks) codes) (length codes) i i (c .loop-test .left)) ∙ c .before .loop .inv .1)
+    let codes = now (c .before .before .before .before .args .codes) in
+    let end : length codes ≡ c .before .loop .i = omega (arith, c .before .loop .inv .0) in
+    end ∙ left-ends _ _ _ _ _ (c .before .loop .inv .1) (c .loop-test .left)
 
 pub first-above-spec : {M : Type 1} → statement M
 first-above-spec =

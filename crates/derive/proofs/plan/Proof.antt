@@ -17,7 +17,8 @@ night s = nightOf (now (s .args .lengths)) (now (s .args .inbound)) (s .args .tr
 needed : (c : tie.After-fewest-steps) → c .fewest-steps .result ≡ stepsNeeded (night (c .before .before .before .before .before .before .before))
 needed c =
     let entry = c .before .before .before .before .before .before .before in
-    steps-needed (night entry) (entry .pre .given .lists) (entry .pre .given .counts .tracks .0) (c .before .before .numbers .ensures) (c .fewest-steps .ensures)
+    steps-needed (night entry) (entry .pre .given .lists) (entry .pre .given .counts .tracks .0) (c .before .before .numbers .ensures)
+    (c .fewest-steps .ensures)
 
 returns : tie.Need-returns
 returns c =
@@ -48,7 +49,8 @@ returns-2 c =
     let called = gave .before .before .before in
     let entry = called .before .before .before .before .before .before .before in
     plan-settled (night entry) (entry .pre .given .lists) (entry .pre .given .counts .tracks .0) (needed called)
-    (part-coded (night entry) (entry .pre .given .lists) (entry .pre .given .counts .tracks .0) (called .before .before .numbers .ensures) (needed called) (gave .give .ensures) _)
+    (part-coded (night entry) (entry .pre .given .lists) (entry .pre .given .counts .tracks .0) (called .before .before .numbers .ensures)
+    (needed called) (gave .give .ensures) _)
     (gave .before .before .if1 .left) (settled .settle .ensures)
 
 pub plan-spec : {M : Type 1} → statement M

@@ -2,12 +2,13 @@
 use borrow.Author.Needs.{needs}
 use mathlib.Core.Path.{_≡_, refl, sym, _∙_}
 use denote.Ref.{now}
-use Prim.Native.Nat.{suc, _-_, _≤_, zero-le}
+use Prim.Native.Nat.{suc, _+_, _-_, _≤_, zero-le}
+use Rattle.yard.specs.Words.{first}
 use native.Mathlib.Omega.{arith}
 use lib.ListN.{length}
 use Rattle.yard.specs.Limits.{limits}
-use Rattle.yard.specs.Answers.{badPlace}
-use Rattle.scan.proofs.Left.{Left, left-start, left-hits, left-goes, left-ends}
+use Rattle.yard.specs.Answers.{badPlace, firstBad}
+use Rattle.scan.proofs.Left.{left-start, place-hits, place-goes, place-ends}
 use Rattle.marks.specs.Marks.{markable}
 use Rattle.marks.proofs.Marks.{Met, markable-fresh, met-none, met-next, fit-between, bad-here}
 use Rattle.marks.proofs.first_bad.Statement.{statement}
@@ -19,7 +20,7 @@ Inv-loop inbound marks₀ i₀ i-end marks i =
     × (length marks ≡ length marks₀)
     × (markable marks ≡ limits .cars)
     × Met inbound marks i
-    × Left (badPlace inbound) (length inbound) i
+    × (first (badPlace inbound) (length inbound - i) (i + 1) ≡ firstBad inbound)
 
 abbrev μ-loop : tie.MeasureT-loop
 μ-loop inbound marks₀ i₀ i-end marks i = length inbound - i
@@ -27,7 +28,7 @@ abbrev μ-loop : tie.MeasureT-loop
 loop-holds : tie.Need-loop-holds Inv-loop μ-loop
 loop-holds c =
     let inbound = now (c .before .args .inbound) in
-    (zero-le, refl, markable-fresh (limits .cars), met-none inbound (limits .cars), left-start (badPlace inbound) (length inbound))
+    (zero-le, refl, markable-fresh (limits .cars), met-none inbound (limits .cars), left-start (badPlace inbound) (length inbound) 1)
 
 cast-car : tie.Need-cast-car Inv-loop μ-loop
 cast-car c = omega (arith, c .shared-slice-known2 .given (c .before .before .loop .i))
@@ -49,7 +50,7 @@ place-unfit c =
 returns : tie.Need-returns Inv-loop μ-loop
 returns c =
     let at-test = c .before .before .before .before in
-    left-hits _ _ (at-test .before .loop .inv .4) (at-test .loop-test .taken) (place-unfit (c .before) ∙ c .if1 .taken)
+    place-hits _ _ _ _ (at-test .before .loop .inv .4) (at-test .loop-test .taken) (place-unfit (c .before) ∙ c .if1 .taken)
 
 slice-aggregate-mark : tie.Need-slice-aggregate-mark Inv-loop μ-loop
 slice-aggregate-mark c = sym (c .before .before .before .before .before .before .loop .inv .1)
@@ -69,11 +70,11 @@ loop-again c =
       search needs,
       c .before .mark .ensures .room ∙ known .2,
       met-next _ _ _ (known .3) (at-test .loop-test .taken) (c .before .mark .ensures),
-      left-goes _ _ (known .4) (at-test .loop-test .taken) (place-unfit (at-else .before) ∙ at-else .if1 .left),
+      place-goes _ _ _ _ (known .4) (at-test .loop-test .taken) (place-unfit (at-else .before) ∙ at-else .if1 .left),
     )
 
 returns-2 : tie.Need-returns-2 Inv-loop μ-loop
-returns-2 c = left-ends _ _ (c .before .loop .inv .4) (c .loop-test .left) (c .before .loop .inv .0)
+returns-2 c = place-ends _ _ _ _ (c .before .loop .inv .4) (c .loop-test .left) (c .before .loop .inv .0)
 
 pub first-bad-spec : {M : Type 1} → statement M
 first-bad-spec =

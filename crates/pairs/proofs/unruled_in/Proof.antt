@@ -1,10 +1,9 @@
 -- The proof of `unruled_in`: what is left of the search finds what the whole search finds.
 use mathlib.Core.Path.{_≡_, refl, sym, _∙_}
 use Prim.Native.Nat.{_+_, _-_, _≤_}
-use denote.Ref.{now}
 use native.Mathlib.Omega.{arith}
 use Rattle.yard.specs.Words.{first}
-use Rattle.yard.proofs.First.{first-hits, first-goes, first-ends}
+use Rattle.scan.proofs.Left.{left-hits, left-goes, left-ends}
 use Rattle.pairs.specs.Pairs.{unruledBy}
 use Rattle.pairs.proofs.unruled_in.Statement.{statement}
 use Rattle.pairs.proofs.unruled_in.Tie as tie
@@ -30,47 +29,20 @@ unruled-requires c κs =
 returns : tie.Need-returns Inv-loop μ-loop
 returns c =
     let at-loop = c .before .before .before in
-    let args = at-loop .before .before .before .args in
-    let j = at-loop .loop .j in
-    sym (first-hits (unruledBy (now (args .places)) (now (args .codes))) (args .end) j j (c .before .before .loop-test .taken)
-    (sym (c .before .unruled .ensures) ∙ c .if1 .taken)) ∙ at-loop .loop .inv .2
-
-add-j-2 : tie.Need-add-j-2 Inv-loop μ-loop
-add-j-2 c = omega arith
-
-loop-less : tie.Need-loop-less Inv-loop μ-loop
-loop-less c = omega arith
+    left-hits _ _ _ _ _ (at-loop .loop .inv .2) (c .before .before .loop-test .taken) (sym (c .before .unruled .ensures) ∙ c .if1 .taken)
 
 loop-again : tie.Need-loop-again Inv-loop μ-loop
 loop-again c =
     let at-loop = c .before .before .before in
-    let args = at-loop .before .before .before .args in
-    let j = at-loop .loop .j in (
-      omega arith,
-      omega arith,
-      sym
-          (first-goes (unruledBy (now (args .places)) (now (args .codes))) (args .end) j j (c .before .before .loop-test .taken)
-          (sym (c .before .unruled .ensures) ∙ c .if1 .left)) ∙ at-loop .loop .inv .2,
-    )
+    let goes = left-goes _ _ _ _ _ (at-loop .loop .inv .2) (c .before .before .loop-test .taken) (sym (c .before .unruled .ensures) ∙ c .if1 .left) in
+    (omega arith, omega arith, goes)
 
 returns-2 : tie.Need-returns-2 Inv-loop μ-loop
 returns-2 c =
-    let args = c .before .before .before .before .args in
-    let j = c .before .loop .j in
-    let end : args .end ≡ j = omega arith in
-    end ∙ (sym (first-ends (unruledBy (now (args .places)) (now (args .codes))) (args .end) j j (c .loop-test .left)) ∙ c .before .loop .inv .2)
+    let end : c .before .before .before .before .args .end ≡ c .before .loop .j = omega arith in
+    end ∙ left-ends _ _ _ _ _ (c .before .loop .inv .2) (c .loop-test .left)
 
 pub unruled-in-spec : {M : Type 1} → statement M
 unruled-in-spec =
     tie.close
-    (tie.spec
-    Inv-loop
-    μ-loop
-    add-j
-    loop-holds
-    unruled-requires
-    returns
-    add-j-2
-    loop-less
-    loop-again
-    returns-2)
+    (tie.spec Inv-loop μ-loop add-j loop-holds unruled-requires returns (λ c. omega arith) (λ c. omega arith) loop-again returns-2)

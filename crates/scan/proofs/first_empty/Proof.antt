@@ -1,7 +1,9 @@
 -- The proof of `first_empty`: what is left of the search finds what the whole search finds.
 use mathlib.Core.Bool.{Bool}
 use mathlib.Core.List.{List}
-use Prim.Native.Nat.{ℕ, _-_, _≤_}
+use mathlib.Core.Path.{_≡_}
+use Prim.Native.Nat.{ℕ, _+_, _-_, _≤_}
+use Rattle.yard.specs.Words.{first}
 use denote.Ref.{now}
 use native.Mathlib.Omega.{arith}
 use lib.Dec.{eqb}
@@ -9,7 +11,7 @@ use lib.ListN.{length}
 use borrow.Author.Tests.{eq-eqb, ne-eqb}
 use Rattle.yard.specs.Night.{itemOf}
 use Rattle.yard.proofs.Tests.{item-at}
-use Rattle.scan.proofs.Left.{Left, left-start, left-hits, left-goes, left-ends}
+use Rattle.scan.proofs.Left.{left-start, place-hits, place-goes, place-ends}
 use Rattle.scan.proofs.first_empty.Statement.{statement}
 use Rattle.scan.proofs.first_empty.Tie as tie
 
@@ -17,7 +19,7 @@ abbrev empty : List ℕ → ℕ → Bool
 empty lengths train = eqb (itemOf lengths train) 0
 
 abbrev Inv-loop : tie.InvT-loop
-Inv-loop lengths t₀ t-end t = (t ≤ length lengths) × Left (empty lengths) (length lengths) t
+Inv-loop lengths t₀ t-end t = (t ≤ length lengths) × (first (empty lengths) (length lengths - t) (t + 1) ≡ first (empty lengths) (length lengths) 1)
 
 abbrev μ-loop : tie.MeasureT-loop
 μ-loop lengths t₀ t-end t = length lengths - t
@@ -25,20 +27,20 @@ abbrev μ-loop : tie.MeasureT-loop
 loop-holds : tie.Need-loop-holds Inv-loop μ-loop
 loop-holds c =
     let lengths = now (c .args .lengths) in
-    (omega arith, left-start (empty lengths) (length lengths))
+    (omega arith, left-start (empty lengths) (length lengths) 1)
 
 returns : tie.Need-returns Inv-loop μ-loop
 returns c =
     let at-loop = c .before .before .before in
-    left-hits _ _ (at-loop .loop .inv .1) (c .before .before .loop-test .taken) (rw item-at (eq-eqb _ _ (c .if1 .taken)))
+    place-hits _ _ _ _ (at-loop .loop .inv .1) (c .before .before .loop-test .taken) (rw item-at (eq-eqb _ _ (c .if1 .taken)))
 
 loop-again : tie.Need-loop-again Inv-loop μ-loop
 loop-again c =
     let at-loop = c .before .before .before in
-    (omega arith, left-goes _ _ (at-loop .loop .inv .1) (c .before .before .loop-test .taken) (rw item-at (ne-eqb _ _ (c .if1 .left))))
+    (omega arith, place-goes _ _ _ _ (at-loop .loop .inv .1) (c .before .before .loop-test .taken) (rw item-at (ne-eqb _ _ (c .if1 .left))))
 
 returns-2 : tie.Need-returns-2 Inv-loop μ-loop
-returns-2 c = left-ends _ _ (c .before .loop .inv .1) (c .loop-test .left) (c .before .loop .inv .0)
+returns-2 c = place-ends _ _ _ _ (c .before .loop .inv .1) (c .loop-test .left) (c .before .loop .inv .0)
 
 pub first-empty-spec : {M : Type 1} → statement M
 first-empty-spec =

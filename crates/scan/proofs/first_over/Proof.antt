@@ -1,7 +1,9 @@
 -- The proof of `first_over`: what is left of the search finds what the whole search finds.
 use mathlib.Core.Bool.{Bool}
 use mathlib.Core.List.{List}
-use Prim.Native.Nat.{ℕ, _-_, _≤_}
+use mathlib.Core.Path.{_≡_}
+use Prim.Native.Nat.{ℕ, _+_, _-_, _≤_}
+use Rattle.yard.specs.Words.{first}
 use denote.Ref.{now}
 use native.Mathlib.Omega.{arith}
 use lib.Dec.{leb}
@@ -9,7 +11,7 @@ use lib.ListN.{length}
 use borrow.Author.Tests.{le-leb, lt-leb}
 use Rattle.yard.specs.Night.{itemOf}
 use Rattle.yard.proofs.Tests.{item-at}
-use Rattle.scan.proofs.Left.{Left, left-start, left-hits, left-goes, left-ends}
+use Rattle.scan.proofs.Left.{left-start, place-hits, place-goes, place-ends}
 use Rattle.scan.proofs.first_over.Statement.{statement}
 use Rattle.scan.proofs.first_over.Tie as tie
 
@@ -17,7 +19,7 @@ abbrev over : List ℕ → ℕ → ℕ → Bool
 over items bound k = leb bound (itemOf items k)
 
 abbrev Inv-loop : tie.InvT-loop
-Inv-loop items bound i₀ i-end i = (i ≤ length items) × Left (over items bound) (length items) i
+Inv-loop items bound i₀ i-end i = (i ≤ length items) × (first (over items bound) (length items - i) (i + 1) ≡ first (over items bound) (length items) 1)
 
 abbrev μ-loop : tie.MeasureT-loop
 μ-loop items bound i₀ i-end i = length items - i
@@ -25,20 +27,20 @@ abbrev μ-loop : tie.MeasureT-loop
 loop-holds : tie.Need-loop-holds Inv-loop μ-loop
 loop-holds c =
     let items = now (c .args .items) in
-    (omega arith, left-start (over items (c .args .bound)) (length items))
+    (omega arith, left-start (over items (c .args .bound)) (length items) 1)
 
 returns : tie.Need-returns Inv-loop μ-loop
 returns c =
     let at-loop = c .before .before .before in
-    left-hits _ _ (at-loop .loop .inv .1) (c .before .before .loop-test .taken) (rw item-at (le-leb _ _ (c .if1 .taken)))
+    place-hits _ _ _ _ (at-loop .loop .inv .1) (c .before .before .loop-test .taken) (rw item-at (le-leb _ _ (c .if1 .taken)))
 
 loop-again : tie.Need-loop-again Inv-loop μ-loop
 loop-again c =
     let at-loop = c .before .before .before in
-    (omega arith, left-goes _ _ (at-loop .loop .inv .1) (c .before .before .loop-test .taken) (rw item-at (lt-leb _ _ (c .if1 .left))))
+    (omega arith, place-goes _ _ _ _ (at-loop .loop .inv .1) (c .before .before .loop-test .taken) (rw item-at (lt-leb _ _ (c .if1 .left))))
 
 returns-2 : tie.Need-returns-2 Inv-loop μ-loop
-returns-2 c = left-ends _ _ (c .before .loop .inv .1) (c .loop-test .left) (c .before .loop .inv .0)
+returns-2 c = place-ends _ _ _ _ (c .before .loop .inv .1) (c .loop-test .left) (c .before .loop .inv .0)
 
 pub first-over-spec : {M : Type 1} → statement M
 first-over-spec =
