@@ -13,9 +13,11 @@ use Rattle.yard.specs.declared.Head.{Head}
 use Rattle.yard.specs.Limits.{limits}
 use Rattle.yard.specs.Night.{sum}
 use Rattle.yard.specs.Answers.{says, test, verdict, written}
+use Rattle.yard.specs.Calls.{countTests}
 use Rattle.yard.specs.Bits.{Bytes, unpacked, bitsOf}
-use Rattle.yard.specs.Card.{layout, headWidths, listWidths, cardLength, headOn, listsOn, cardPlan, rightLength, endsRight, noHead, readerSays, readerVerdict, readerAnswer, judged, Reads}
-use Rattle.yard.proofs.Verdict.{verdict-append, verdict-passes, verdict-nested, stops-all, goes-on-all, written-accepted, written-refused}
+use Rattle.yard.specs.Card.{layout, headWidths, listWidths, cardLength, headOn, listsOn, cardPlan, rightLength, endsRight, noHead, readerSays}
+use Rattle.yard.specs.Card.{readerVerdict, readerAnswer, judged, Reads}
+use Rattle.yard.proofs.Verdict.{passed-append, verdict-append, verdict-passes, verdict-nested, stops-all, goes-on-all, written-accepted, written-refused}
 use Rattle.yard.proofs.Tests.{counts-passed}
 use Rattle.yard.proofs.Bits.{sum-replicate, unpacked-append}
 use Rattle.yard.proofs.Card.{cardPlan-trains, cardPlan-cars, cardPlan-codes}
@@ -129,8 +131,9 @@ within-bounded w = record { steps = w .steps .1; cars = w .cars .1; trains = w .
 
 pub head-bounded : (size : ℕ) (h : Head) → verdict (headTests size h) (says 0 0 0) .number ≡ 0 → Bounded h
 head-bounded size h e =
-    let counts = verdict-passes (headTests size h) (says 0 0 0) .0 e .0 .1 .1 .1 in
-    within-bounded {h = h} (counts-passed limits (h .cars) (h .trains) (h .tracks) (h .room) (h .steps) .0 counts)
+    let counts = countTests limits (h .cars) (h .trains) (h .tracks) (h .room) (h .steps) in
+    let parts = passed-append (take 3 (headTests size h)) counts .0 (verdict-passes (headTests size h) (says 0 0 0) .0 e .0) in
+    within-bounded {h = h} (counts-passed limits (h .cars) (h .trains) (h .tracks) (h .room) (h .steps) .0 (parts .1))
 
 -- buffers that have room for the lists of a head within the limits
 pub record Roomy (h : Head) (l i c : List ℕ) : Type 0 where

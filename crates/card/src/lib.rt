@@ -30,7 +30,8 @@ fn told(verdict: Answer, head: Head) -> CardAnswer
 
 // Reads a card: its lengths, inbound numbers and codes into the buffers, and its numbers as the answer.
 pub fn read(card: &[u8], lengths: &mut [u16], inbound: &mut [u16], codes: &mut [u16]) -> CardAnswer
-    ensures { λ r. ⌜ Reads (now (card .entry)) (now (lengths .entry)) (now (inbound .entry)) (now (codes .entry)) r (now (lengths .exit)) (now (inbound .exit)) (now (codes .exit)) ⌝ }
+    ensures { λ r. ⌜ Reads (now (card .entry)) (now (lengths .entry)) (now (inbound .entry)) (now (codes .entry))
+        r (now (lengths .exit)) (now (inbound .exit)) (now (codes .exit)) ⌝ }
 {
     let head = reader::head(card);
     let mut lengths_on = [0u16; 64];
@@ -72,7 +73,8 @@ pub fn write(
     steps: usize,
     card: &mut [u8],
 ) -> Answer
-    ensures { λ r. ⌜ Writes (planOf (now (lengths .entry)) (now (inbound .entry)) tracks room steps (now (codes .entry))) (now (card .entry)) r (now (card .exit)) ⌝ }
+    ensures { λ r. ⌜ Writes (planOf (now (lengths .entry)) (now (inbound .entry)) tracks room steps (now (codes .entry)))
+        (now (card .entry)) r (now (card .exit)) ⌝ }
 {
     let head = Head {
         edition: 1,

@@ -61,7 +61,8 @@ fn size_tests(size: usize, head: Head, lengths: usize, inbound: usize, codes: us
 // 2 and 3: reads lengths and inbound numbers to the front of two arrays, and tests these.
 fn lists(card: &[u8], head: Head, lengths: &mut [u16], inbound: &mut [u16]) -> Answer
     requires { ⌜ Bounded head × (head .trains ≤ length (now lengths)) × (head .cars ≤ length (now inbound)) ⌝ }
-    ensures { λ r. ⌜ (r ≡ verdict (nightTestsOn (now (card .entry)) head) (says 0 0 0)) × Held (now (card .entry)) head (now (lengths .exit)) (now (inbound .exit)) ⌝ }
+    ensures { λ r. ⌜ (r ≡ verdict (nightTestsOn (now (card .entry)) head) (says 0 0 0))
+        × Held (now (card .entry)) head (now (lengths .exit)) (now (inbound .exit)) ⌝ }
 {
     let at = format::places_of(head);
     let l = format::layout_of(head.edition);
@@ -72,7 +73,8 @@ fn lists(card: &[u8], head: Head, lengths: &mut [u16], inbound: &mut [u16]) -> A
     intake::lists(&lengths[0..trains], &inbound[0..cars])
 }
 
-// The verdict on a card with this head, for buffers of these sizes: the lists of an accepted card stand in two arrays, the trains' lengths and the cars' order, so that a refused card writes nothing.
+// The verdict on a card with this head, for buffers of these sizes. The lists of an accepted card stand in two arrays, the trains'
+// lengths and the cars' order, so that a refused card writes nothing.
 pub fn verdict(
     card: &[u8],
     head: Head,
@@ -83,7 +85,8 @@ pub fn verdict(
     order: &mut [u16],
 ) -> Answer
     requires { ⌜ (head ≡ headOn (now card)) × (limits .trains ≤ length (now trains)) × (limits .cars ≤ length (now order)) ⌝ }
-    ensures { λ r. ⌜ (r ≡ readerVerdict limits (now (card .entry)) lengths inbound codes) × (r .number ≡ 0 → Held (now (card .entry)) head (now (trains .exit)) (now (order .exit))) ⌝ }
+    ensures { λ r. ⌜ (r ≡ readerVerdict limits (now (card .entry)) lengths inbound codes)
+        × (r .number ≡ 0 → Held (now (card .entry)) head (now (trains .exit)) (now (order .exit))) ⌝ }
 {
     let first = head_tests(card.len(), head);
     if first.number != 0 {

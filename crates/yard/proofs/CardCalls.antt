@@ -18,11 +18,13 @@ use Rattle.yard.specs.Night.{Plan}
 use Rattle.yard.specs.Answers.{says, test, listTest, codeTest}
 use Rattle.yard.specs.Calls.{countTests, nightCounts, nightTests}
 use Rattle.yard.specs.Bits.{Bytes}
-use Rattle.yard.specs.Card.{layout, card, headLength, headOf, headOn, cardPlan, rightLength, endsRight, writerTests, writerAnswer, Writes, readerTests, noHead, readerSays, readerVerdict, readerAnswer, judged, Reads}
+use Rattle.yard.specs.Card.{layout, card, headLength, headOf, headOn, cardPlan, rightLength, endsRight, writerTests, writerAnswer, Writes}
+use Rattle.yard.specs.Card.{readerTests, noHead, readerSays, readerVerdict, readerAnswer, judged, Reads}
 use Rattle.yard.proofs.Verdict.{Passed, passed-append, verdict-passes, verdict-done, written-accepted}
 use Rattle.yard.proofs.Tests.{asks, Within, counts-passed, list-passed, sum-passed, code-passed, inbound-within, item-le-sum}
 use Rattle.yard.proofs.Bits.{Below}
-use Rattle.yard.proofs.Card.{card-length, cardLength-head, card-longest, Fitting, headLength-some, card-head, cardPlan-card, card-right-length, card-ends-right, cardPlan-cars, cardPlan-codes, cardPlan-head, IsCard, card-cardPlan, cardPlan-codes-below}
+use Rattle.yard.proofs.Card.{card-length, cardLength-head, card-longest, Fitting, headLength-some, card-head, cardPlan-card, card-right-length}
+use Rattle.yard.proofs.Card.{card-ends-right, cardPlan-cars, cardPlan-codes, cardPlan-head, IsCard, card-cardPlan, cardPlan-codes-below}
 
 -- the numbers of a head are within limits
 abbrev pub HeadWithin : Limits → Head → Type 0
@@ -59,7 +61,8 @@ writer-accepts L p size =
             room = leb-true (length (card p)) size (room .0 (u .1 .1 .1 .0));
           },
       λ w.
-          let l : Passed last = (coded .1 (eq-eqb (length (p .codes)) n (w .coded)), (codes .1 (w .codes), (room .1 (le-leb (length (card p)) size (w .room)), tt))) in
+          let has-room = room .1 (le-leb (length (card p)) size (w .room)) in
+          let l : Passed last = (coded .1 (eq-eqb (length (p .codes)) n (w .coded)), (codes .1 (w .codes), (has-room, tt))) in
           all .1 (counts .1 (within .1 (w .counts), night .1 (w .night, l)), refl),
     )
 
@@ -263,11 +266,14 @@ written-bytes : {p : Plan} {before : List ℕ} {w : Answer} {after : List ℕ} �
 unfolding writerAnswer
 written-bytes {p} {before} {w} {after} writes e =
     let accepted : writerAnswer limits p (length before) .number ≡ 0 = sym (ap (λ r. r .number) (writes .answer)) ∙ e in
-    let bytes : after ≡ card p ++ drop (length (card p)) before = writes .bytes ∙ written-accepted (writerAnswer limits p (length before)) (card p) before accepted in
-    let size : w .a ≡ length (card p) = ap (λ r. r .a) (writes .answer ∙ verdict-done (writerTests limits p (length before)) (says 0 (length (card p)) 0) accepted) in
+    let done = verdict-done (writerTests limits p (length before)) (says 0 (length (card p)) 0) accepted in
+    let bytes : after ≡ card p ++ drop (length (card p)) before =
+    writes .bytes ∙ written-accepted (writerAnswer limits p (length before)) (card p) before accepted in
+    let size : w .a ≡ length (card p) = ap (λ r. r .a) (writes .answer ∙ done) in
     rw (bytes, size) (take-append-seam (card p) (drop (length (card p)) before))
 
-pub written-then-read : {p : Plan} {before : List ℕ} {w : Answer} {after lengths₀ inbound₀ codes₀ : List ℕ} {r : CardAnswer} {lengths₁ inbound₁ codes₁ : List ℕ}
+pub written-then-read : {p : Plan} {before : List ℕ} {w : Answer} {after : List ℕ}
+    {lengths₀ inbound₀ codes₀ : List ℕ} {r : CardAnswer} {lengths₁ inbound₁ codes₁ : List ℕ}
     → Writes p before w after
     → w .number ≡ 0
     → Reads (take (w .a) after) lengths₀ inbound₀ codes₀ r lengths₁ inbound₁ codes₁
@@ -281,19 +287,25 @@ written-then-read {p} {before} {w} {after} {lengths₀} {inbound₀} {codes₀} 
     rw (back .1) at (read-told same (reads-number same ∙ back .0))
 
 -- Read, then written: the bytes that came in go out.
-pub read-then-written : {bytes lengths₀ inbound₀ codes₀ : List ℕ} {r : CardAnswer} {lengths₁ inbound₁ codes₁ before : List ℕ} {w : Answer} {after : List ℕ}
+pub read-then-written : {bytes lengths₀ inbound₀ codes₀ : List ℕ} {r : CardAnswer} {lengths₁ inbound₁ codes₁ : List ℕ}
+    {before : List ℕ} {w : Answer} {after : List ℕ}
     → Reads bytes lengths₀ inbound₀ codes₀ r lengths₁ inbound₁ codes₁
     → r .number ≡ 0
     → Writes (cardPlan bytes) before w after
     → length bytes ≤ length before
     → (w .number ≡ 0) × (take (w .a) after ≡ bytes)
 read-then-written {bytes} {lengths₀} {inbound₀} {codes₀} {before = before} reads e writes h =
-    let back = accepted-is-the-card limits bytes (length lengths₀) (length inbound₀) (length codes₀) (length before) (reads .given) (sym (reads-number reads) ∙ e) h in
+    let number = sym (reads-number reads) ∙ e in
+    let back =
+    accepted-is-the-card limits bytes (length lengths₀) (length inbound₀) (length codes₀) (length before) (reads .given) number h in
     let accepted = ap (λ r. r .number) (writes .answer) ∙ back .1 in
     (accepted, written-bytes writes accepted ∙ back .0)
 
 -- Each call leaves one answer and one content of its buffers.
-pub writer-one : {p : Plan} {before : List ℕ} {r s : Answer} {after other : List ℕ} → Writes p before r after → Writes p before s other → (r ≡ s) × (after ≡ other)
+pub writer-one : {p : Plan} {before : List ℕ} {r s : Answer} {after other : List ℕ}
+    → Writes p before r after
+    → Writes p before s other
+    → (r ≡ s) × (after ≡ other)
 writer-one x y = (x .answer ∙ sym (y .answer), x .bytes ∙ sym (y .bytes))
 
 pub reader-one : {bytes lengths₀ inbound₀ codes₀ : List ℕ} {r s : CardAnswer} {lengths₁ inbound₁ codes₁ lengths₂ inbound₂ codes₂ : List ℕ}

@@ -77,7 +77,8 @@ module _ (L : Limits) (p : Plan) (size : ℕ) where
 
   pub writer-refuses-exactly : (k : ℕ) → 0 < k → (writerAnswer L p size .number ≡ k) ↔ FirstFails k (writerReasons L p size)
   unfolding writerAnswer
-  writer-refuses-exactly k pos = refused-exactly (says 0 (length (card p)) 0) refl k pos (writerTests L p size) (writerReasons L p size) (writer-agrees L p size)
+  writer-refuses-exactly k pos =
+      refused-exactly (says 0 (length (card p)) 0) refl k pos (writerTests L p size) (writerReasons L p size) (writer-agrees L p size)
 
 module _ (L : Limits) (bytes : List ℕ) (a b c : ℕ) where
   pub reader-accepts-exactly : (readerVerdict L bytes a b c .number ≡ 0) ↔ AllHold (readerReasons L bytes a b c)

@@ -69,7 +69,8 @@ returns-2 c =
       placed .places-of .ensures,
       head .head .ensures,
     )
-    (reads-accepted (now (args .card)) (now (args .lengths)) (now (args .inbound)) (now (args .codes)) (given head) (judged .verdict .ensures .0) (passed .if1 .left)
+    (reads-accepted (now (args .card)) (now (args .lengths)) (now (args .inbound)) (now (args .codes)) (given head) (judged .verdict .ensures .0)
+    (passed .if1 .left)
     (rw (head .head .ensures) at (c .told2 .ensures)))
 
 pub read-spec : {M : Type 1} → statement M

@@ -35,10 +35,10 @@ returns c =
     let w = laid .layout-of .result .number in
     let lengths =
     rw (placed .places-of .ensures, laid .layout-of .ensures .is) at
-    (fields-front (now (args .card)) (now (args .lengths)) (first .fields .last .1 .1 .1 .1 .0) (at .lengths) w (args .head .trains) (first .fields .ensures)) in
+    (fields-front (now (args .card)) (now (args .lengths)) _ (at .lengths) w (args .head .trains) (first .fields .ensures)) in
     let inbound =
     rw (placed .places-of .ensures, laid .layout-of .ensures .is) at
-    (fields-front (now (args .card)) (now (args .inbound)) (second .fields2 .last .1 .1 .1 .1 .0) (at .inbound) w (args .head .cars) (second .fields2 .ensures)) in
+    (fields-front (now (args .card)) (now (args .inbound)) _ (at .inbound) w (args .head .cars) (second .fields2 .ensures)) in
     (rw (sub-zero, sub-zero, lengths, inbound) at (c .lists .ensures), record { lengths = lengths; inbound = inbound })
 
 pub lists-spec : {M : Type 1} → statement M

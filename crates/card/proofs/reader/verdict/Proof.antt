@@ -21,7 +21,8 @@ first c = rw (c .before .before .before .before .pre .0) at (c .head-tests .ensu
 
 second : (c : tie.After-size-tests)
     → let args = c .before .before .before .before .before .before .before .args in
-    c .size-tests .result ≡ verdict (sizeTests (length (now (args .card))) (headOn (now (args .card))) (args .lengths) (args .inbound) (args .codes)) (says 0 0 0)
+    let bytes = now (args .card) in
+    c .size-tests .result ≡ verdict (sizeTests (length bytes) (headOn bytes) (args .lengths) (args .inbound) (args .codes)) (says 0 0 0)
 second c = rw (c .before .before .before .before .before .before .before .pre .0) at (c .size-tests .ensures)
 
 -- the counts have passed

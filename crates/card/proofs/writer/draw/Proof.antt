@@ -131,7 +131,10 @@ returns c =
     let all = draws-then (draws-then (head at-head) lists) (zeros .close .ensures) in
     let same : length (zeros .close .last .0) ≡ length (card (laid1 at-head)) = zeros .close .kept .0 ∙ after-codes codes .size in
     rw (card-bits plan (d .coded))
-    (draws-whole (cardBits plan) (card (laid1 at-head)) (zeros .close .last .0) (zeros .close .result) all (λ i. c .slice-known6 .given i .fits) same (cardBits-room d))
+    (draws-whole (cardBits plan) (card (laid1 at-head)) (zeros .close .last .0) (zeros .close .result) all
+    (λ i. c .slice-known6 .given i .fits)
+    same
+    (cardBits-room d))
 
 pub draw-spec : {M : Type 1} → statement M
 draw-spec =
