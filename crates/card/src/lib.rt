@@ -3,11 +3,6 @@ use bits::fields;
 use yard::Answer;
 use yard::CardAnswer;
 use yard::Head;
-
-mod format; // format.rt: the widths of a card's fields, and where they stand
-mod reader; // reader.rt: the reader's tests
-mod writer; // writer.rt: the writer's tests, and the card drawn
-
 ghost use mathlib.Core.Path.{_≡_};
 ghost use Rattle.yard.specs.Night.{planOf};
 ghost use Rattle.yard.specs.Card.{readerSays, Reads, Writes};
@@ -33,10 +28,10 @@ pub fn read(card: &[u8], lengths: &mut [u16], inbound: &mut [u16], codes: &mut [
     ensures { λ r. ⌜ Reads (now (card .entry)) (now (lengths .entry)) (now (inbound .entry)) (now (codes .entry))
         r (now (lengths .exit)) (now (inbound .exit)) (now (codes .exit)) ⌝ }
 {
-    let head = reader::head(card);
+    let head = card_reader::head(card);
     let mut lengths_on = [0u16; 64];
     let mut inbound_on = [0u16; 512];
-    let verdict = reader::verdict(
+    let verdict = card_reader::verdict(
         card,
         head,
         lengths.len(),
@@ -84,9 +79,9 @@ pub fn write(
         cars: inbound.len(),
         trains: lengths.len(),
     };
-    let answer = writer::answer(lengths, inbound, codes, head, card.len());
+    let answer = card_writer::answer(lengths, inbound, codes, head, card.len());
     if answer.number == 0 {
-        writer::draw(lengths, inbound, codes, head, card);
+        card_writer::draw(lengths, inbound, codes, head, card);
     }
     answer
 }

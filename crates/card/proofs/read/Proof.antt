@@ -3,8 +3,8 @@ use native.Mathlib.Omega.{arith}
 use denote.Ref.{now}
 use borrow.Author.Needs.{needs}
 use Rattle.yard.specs.Bits.{Bytes}
-use Rattle.card.proofs.Places.{end-bounded}
-use Rattle.card.proofs.Reading.{Roomy, accepted-room, reads-refused, reads-accepted}
+use Rattle.format.proofs.Widths.{end-bounded}
+use Rattle.card_reader.proofs.Reading.{Roomy, accepted-room, reads-refused, reads-accepted}
 use Rattle.card.proofs.read.Statement.{statement}
 use Rattle.card.proofs.read.Tie as tie
 
