@@ -9,7 +9,8 @@ use lib.ListN.{length, getD, take, drop, replicate, length-append, length-replic
 use lib.Pow.{pow-pos, shr-shr, split, high}
 use lib.Seq.{length-take-le, take-suc, take-at, drop-at, drop-drop, sets, sets-eq}
 use Rattle.yard.specs.Bits.{toBits, packed, unpacked, wholeBytes, toBytes, bitsOf}
-use Rattle.yard.proofs.Bits.{Below, fits-run, length-toBits, toBits-low, packed-append, unpacked-packed, unpacked-zeros, length-toBytes, length-packed, sum-replicate}
+use Rattle.yard.proofs.Bits.{Below, fits-run, length-toBits, toBits-low, packed-append, unpacked-packed, unpacked-zeros, length-toBytes}
+use Rattle.yard.proofs.Bits.{length-packed, sum-replicate}
 use Rattle.bits.specs.declared.pens.Pen.{Pen}
 use Rattle.bits.specs.Pens.{fresh, drawn, Draws}
 use Rattle.bits.proofs.Words.{joined-low}
@@ -159,7 +160,8 @@ draws-whole bits before after q d small same room =
     let count : q .at ≡ wholeBytes (length bits) = omega (arith, d .few) in
     let long : length bytes ≡ q .at = length-take-le (q .at) after (omega arith) in
     let fit = fits-run (q .at) 8 bytes long (below-take (q .at) after small) in
-    let whole : unpacked (replicate (q .at) 8) (packed (replicate (q .at) 8) bytes ++ toBits (q .count) (q .pending)) ≡ bytes = unpacked-packed (replicate (q .at) 8) bytes (toBits (q .count) (q .pending)) fit in
+    let whole : unpacked (replicate (q .at) 8) (packed (replicate (q .at) 8) bytes ++ toBits (q .count) (q .pending)) ≡ bytes =
+    unpacked-packed (replicate (q .at) 8) bytes (toBits (q .count) (q .pending)) fit in
     let read : bytes ≡ toBytes bits =
     sym whole
     ∙ ap (λ k. unpacked (replicate (q .at) 8) (packed (replicate k 8) bytes ++ toBits (q .count) (q .pending))) (sym long)

@@ -13,7 +13,8 @@ use lib.Seq.{drop-drop, drop-nil, drop-cons, drop-append-add, set-at, take-at, g
 use borrow.Author.Tests.{eq-eqb, ne-eqb}
 use Rattle.yard.specs.Words.{every}
 use Rattle.yard.specs.Bits.{toBits, fromBits, unpacked, wholeBytes, bitsOf}
-use Rattle.yard.proofs.Bits.{Below, below-drop, fromBits-step, fromBits-toBits, fromBits-below, bitsOf-below, length-bitsOf, length-unpacked, unpacked-append, sum-replicate}
+use Rattle.yard.proofs.Bits.{Below, below-drop, fromBits-step, fromBits-toBits, fromBits-below, bitsOf-below, length-bitsOf, length-unpacked}
+use Rattle.yard.proofs.Bits.{unpacked-append, sum-replicate}
 use Rattle.bits.specs.Fields.{fieldAt, fieldsAt, endsAt}
 
 -- A number of v + w bits is one of v bits before one of w.
@@ -120,7 +121,9 @@ fields-front bytes old new at w n e = ap (take n) e ∙ take-at (fieldsAt bytes 
 -- The end: bits are all 0 exactly if their number is.
 zeros-number : (l : List ℕ) → every (λ b. eqb b 0) l ≡ eqb (fromBits (length l) l) 0
 zeros-number [] = refl
-zeros-number (zero ∷ l) = zeros-number l ∙ ap (λ k. eqb k 0) (sym (ap (λ k. k + fromBits (length l) l) (zero-mul (2 ^ length l)) ∙ zero-add (fromBits (length l) l)))
+zeros-number (zero ∷ l) =
+    zeros-number l
+    ∙ ap (λ k. eqb k 0) (sym (ap (λ k. k + fromBits (length l) l) (zero-mul (2 ^ length l)) ∙ zero-add (fromBits (length l) l)))
 zeros-number (suc b ∷ l) =
     ap (λ t. t && every (λ b. eqb b 0) l) (ne-eqb (suc b) 0 (suc-ne-zero b))
     ∙ sym (ne-eqb (suc b * 2 ^ length l + fromBits (length l) l) 0 (λ e. omega (arith, suc-mul b (2 ^ length l), pow-pos (length l))))
@@ -142,7 +145,8 @@ ends-here bytes at e =
 pub ends-elsewhere : (bytes : List ℕ) (at : ℕ) → (length bytes ≡ wholeBytes at → ⊥) → endsAt bytes at ≡ false
 unfolding endsAt
 ends-elsewhere bytes at h =
-    ap (λ b. every (λ b. eqb b 0) (drop at (bitsOf bytes)) && b) (ne-eqb (length bytes) (wholeBytes at) h) ∙ and-false (every (λ b. eqb b 0) (drop at (bitsOf bytes)))
+    let spare = drop at (bitsOf bytes) in
+    ap (λ b. every (λ b. eqb b 0) spare && b) (ne-eqb (length bytes) (wholeBytes at) h) ∙ and-false (every (λ b. eqb b 0) spare)
   where
     and-false : (b : Bool) → (b && false) ≡ false
     and-false true = refl

@@ -23,7 +23,10 @@ planRead r lengths inbound codes =
 front : (items buffer : List ℕ) (k : ℕ) (held : List ℕ) → k ≡ length items → held ≡ items ++ drop (length items) buffer → take k held ≡ items
 front items buffer k held e h = ap (λ n. take n held) e ∙ ap (take (length items)) h ∙ take-append-seam items (drop (length items) buffer)
 
-pub plan-read : {bytes l i c : List ℕ} {r : CardAnswer} {l₁ i₁ c₁ : List ℕ} → Reads bytes l i c r l₁ i₁ c₁ → r .number ≡ 0 → planRead r l₁ i₁ c₁ ≡ cardPlan bytes
+pub plan-read : {bytes l i c : List ℕ} {r : CardAnswer} {l₁ i₁ c₁ : List ℕ}
+    → Reads bytes l i c r l₁ i₁ c₁
+    → r .number ≡ 0
+    → planRead r l₁ i₁ c₁ ≡ cardPlan bytes
 plan-read {bytes} {l} {i} {c} {r} {l₁} {i₁} {c₁} reads e =
     let p = cardPlan bytes in
     let told = read-told reads e in
@@ -37,7 +40,8 @@ plan-read {bytes} {l} {i} {c} {r} {l₁} {i₁} {c₁} reads e =
     ∙ ap (λ r. planOf (p .night .lengths) (p .night .inbound) (r .tracks) (r .room) (r .steps) (p .codes)) (told .answer)
 
 -- What `write` wrote `read` takes back: the numbers in the answer, the items of each list at the front of its buffer.
-pub write-then-read : {lengths inbound codes : List ℕ} {tracks room steps : ℕ} {before : List ℕ} {w : Answer} {after l i c : List ℕ} {r : CardAnswer} {l₁ i₁ c₁ : List ℕ}
+pub write-then-read : {lengths inbound codes : List ℕ} {tracks room steps : ℕ} {before : List ℕ} {w : Answer} {after : List ℕ}
+    {l i c : List ℕ} {r : CardAnswer} {l₁ i₁ c₁ : List ℕ}
     → Writes (planOf lengths inbound tracks room steps codes) before w after
     → w .number ≡ 0
     → Reads (take (w .a) after) l i c r l₁ i₁ c₁

@@ -1,5 +1,2 @@
--- The laws of this crate, by topic.
-pub mod Places
-pub mod Reading
-pub mod Writing
+-- The laws of this crate.
 pub mod Calls

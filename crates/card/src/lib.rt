@@ -3,11 +3,6 @@ use bits::fields;
 use yard::Answer;
 use yard::CardAnswer;
 use yard::Head;
-
-mod format; // format.rt: the widths of a card's fields, and where they stand
-mod reader; // reader.rt: the reader's tests
-mod writer; // writer.rt: the writer's tests, and the card drawn
-
 ghost use mathlib.Core.Path.{_≡_};
 ghost use Rattle.yard.specs.Night.{planOf};
 ghost use Rattle.yard.specs.Card.{readerSays, Reads, Writes};
@@ -30,12 +25,13 @@ fn told(verdict: Answer, head: Head) -> CardAnswer
 
 // Reads a card: its lengths, inbound numbers and codes into the buffers, and its numbers as the answer.
 pub fn read(card: &[u8], lengths: &mut [u16], inbound: &mut [u16], codes: &mut [u16]) -> CardAnswer
-    ensures { λ r. ⌜ Reads (now (card .entry)) (now (lengths .entry)) (now (inbound .entry)) (now (codes .entry)) r (now (lengths .exit)) (now (inbound .exit)) (now (codes .exit)) ⌝ }
+    ensures { λ r. ⌜ Reads (now (card .entry)) (now (lengths .entry)) (now (inbound .entry)) (now (codes .entry))
+        r (now (lengths .exit)) (now (inbound .exit)) (now (codes .exit)) ⌝ }
 {
-    let head = reader::head(card);
+    let head = card_reader::head(card);
     let mut lengths_on = [0u16; 64];
     let mut inbound_on = [0u16; 512];
-    let verdict = reader::verdict(
+    let verdict = card_reader::verdict(
         card,
         head,
         lengths.len(),
@@ -72,7 +68,8 @@ pub fn write(
     steps: usize,
     card: &mut [u8],
 ) -> Answer
-    ensures { λ r. ⌜ Writes (planOf (now (lengths .entry)) (now (inbound .entry)) tracks room steps (now (codes .entry))) (now (card .entry)) r (now (card .exit)) ⌝ }
+    ensures { λ r. ⌜ Writes (planOf (now (lengths .entry)) (now (inbound .entry)) tracks room steps (now (codes .entry)))
+        (now (card .entry)) r (now (card .exit)) ⌝ }
 {
     let head = Head {
         edition: 1,
@@ -82,9 +79,9 @@ pub fn write(
         cars: inbound.len(),
         trains: lengths.len(),
     };
-    let answer = writer::answer(lengths, inbound, codes, head, card.len());
+    let answer = card_writer::answer(lengths, inbound, codes, head, card.len());
     if answer.number == 0 {
-        writer::draw(lengths, inbound, codes, head, card);
+        card_writer::draw(lengths, inbound, codes, head, card);
     }
     answer
 }

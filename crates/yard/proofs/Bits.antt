@@ -2,7 +2,8 @@
 use Prim.Native.Nat.{ℕ, zero, suc, _+_, _-_, _*_, _/_, _%_, _^_, _≤_, _<_}
 use mathlib.Core.Path.{_≡_, refl, sym, ap, _∙_}
 use mathlib.Core.List.{List, [], _∷_, _++_, append-assoc, append-nil}
-use native.Mathlib.Nat.{zero-mul, zero-add, le-refl, le-of-suc-le-suc, not-suc-le-zero, add-sub-of-le, suc-add, mul-assoc, mod-lt, mod-one, mod-eq-of-lt, pow-succ', suc-mul, suc-inj, suc-ne-zero, mul-add-div-right, mul-add-mod-self-right}
+use native.Mathlib.Nat.{zero-mul, zero-add, le-refl, le-of-suc-le-suc, not-suc-le-zero, add-sub-of-le, suc-add, mul-assoc, mod-lt, mod-one}
+use native.Mathlib.Nat.{mod-eq-of-lt, pow-succ', suc-mul, suc-inj, suc-ne-zero, mul-add-div-right, mul-add-mod-self-right}
 use native.Mathlib.Numerals.{one-add}
 use native.Mathlib.Omega.{arith}
 use lib.Arith.{digits-lt, mod-mul}
@@ -269,6 +270,7 @@ toBytes-bitsOf bytes b =
 -- zero bits behind that fill no byte more change nothing
 pub toBytes-zeros : (bits : List ℕ) (k : ℕ) → wholeBytes (length bits + k) ≡ wholeBytes (length bits) → toBytes (bits ++ replicate k 0) ≡ toBytes bits
 toBytes-zeros bits k e =
-    ap (λ n. unpacked (replicate (wholeBytes n) 8) (bits ++ replicate k 0)) (length-append bits (replicate k 0) ∙ ap (λ n. length bits + n) (length-replicate k 0))
+    ap (λ n. unpacked (replicate (wholeBytes n) 8) (bits ++ replicate k 0))
+    (length-append bits (replicate k 0) ∙ ap (λ n. length bits + n) (length-replicate k 0))
     ∙ ap (λ n. unpacked (replicate n 8) (bits ++ replicate k 0)) e
     ∙ unpacked-zeros (replicate (wholeBytes (length bits)) 8) bits k

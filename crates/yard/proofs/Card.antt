@@ -13,10 +13,13 @@ use Rattle.yard.specs.declared.Head.{Head}
 use Rattle.yard.specs.Words.{every}
 use Rattle.yard.specs.Night.{Plan, sum}
 use Rattle.yard.specs.Bits.{Bytes, fromBits, packed, unpacked, wholeBytes, toBytes, bitsOf}
-use Rattle.yard.specs.Card.{layout, headWidths, headFields, headFrom, listWidths, widths, headLength, cardLength, headOf, fields, card, headOn, listsOn, cardPlan, rightLength, endsRight}
+use Rattle.yard.specs.Card.{layout, headWidths, headFields, headFrom, listWidths, widths, headLength, cardLength, headOf, fields, card, headOn}
+use Rattle.yard.specs.Card.{listsOn, cardPlan, rightLength, endsRight}
 use Rattle.yard.proofs.Bools.{and-left, and-right, and-both}
 use Rattle.yard.proofs.Lists.{total-append}
-use Rattle.yard.proofs.Bits.{Below, below-drop, Fits, fits-append, fits-run, fits-below, fits-split, sum-replicate, length-packed, length-unpacked, unpacked-append, packed-below, unpacked-packed, packed-unpacked-enough, unpacked-fits, length-bitsOf, length-toBytes, bitsOf-below, bitsOf-toBytes, toBytes-bitsOf, toBytes-below, toBytes-zeros}
+use Rattle.yard.proofs.Bits.{Below, below-drop, Fits, fits-append, fits-run, fits-below, fits-split, sum-replicate, length-packed}
+use Rattle.yard.proofs.Bits.{length-unpacked, unpacked-append, packed-below, unpacked-packed, packed-unpacked-enough, unpacked-fits}
+use Rattle.yard.proofs.Bits.{length-bitsOf, length-toBytes, bitsOf-below, bitsOf-toBytes, toBytes-bitsOf, toBytes-below, toBytes-zeros}
 
 -- The bits of a card: its head, then as many as its lists have.
 abbrev pub headBits : Head → ℕ
@@ -77,7 +80,9 @@ fields-fit p f =
     let lengths = fits-run (h .trains) w (p .night .lengths) refl (f .lengths) in
     let cars = fits-append (replicate (h .cars) w) (p .night .inbound) (replicate (h .cars) (h .steps)) (p .codes) inbound codes in
     let lists =
-    fits-append (replicate (h .trains) w) (p .night .lengths) (replicate (h .cars) w ++ replicate (h .cars) (h .steps)) (p .night .inbound ++ p .codes) lengths cars in
+    fits-append (replicate (h .trains) w) (p .night .lengths) (replicate (h .cars) w ++ replicate (h .cars) (h .steps)) (p .night .inbound ++ p .codes)
+    lengths
+    cars in
     fits-append (headWidths (layout 1)) (headFields h) (listWidths h) (p .night .lengths ++ (p .night .inbound ++ p .codes)) (f .head) lists
 
 -- Plan, card, plan: the fields are read back whole, with the spare zero bits behind them.

@@ -3,8 +3,8 @@ use native.Mathlib.Omega.{arith}
 use denote.Ref.{now}
 use borrow.Author.Needs.{needs}
 use Rattle.yard.specs.Bits.{Bytes}
-use Rattle.card.proofs.Places.{end-bounded}
-use Rattle.card.proofs.Reading.{Roomy, accepted-room, reads-refused, reads-accepted}
+use Rattle.format.proofs.Widths.{end-bounded}
+use Rattle.card_reader.proofs.Reading.{Roomy, accepted-room, reads-refused, reads-accepted}
 use Rattle.card.proofs.read.Statement.{statement}
 use Rattle.card.proofs.read.Tie as tie
 
@@ -69,7 +69,8 @@ returns-2 c =
       placed .places-of .ensures,
       head .head .ensures,
     )
-    (reads-accepted (now (args .card)) (now (args .lengths)) (now (args .inbound)) (now (args .codes)) (given head) (judged .verdict .ensures .0) (passed .if1 .left)
+    (reads-accepted (now (args .card)) (now (args .lengths)) (now (args .inbound)) (now (args .codes)) (given head) (judged .verdict .ensures .0)
+    (passed .if1 .left)
     (rw (head .head .ensures) at (c .told2 .ensures)))
 
 pub read-spec : {M : Type 1} → statement M

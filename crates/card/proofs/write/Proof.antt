@@ -3,7 +3,7 @@ use mathlib.Core.Path.{refl}
 use denote.Ref.{now}
 use borrow.Author.Needs.{needs}
 use Rattle.yard.specs.Night.{Plan, planOf}
-use Rattle.card.proofs.Writing.{accepted-drawable, writes-accepted, writes-refused}
+use Rattle.card_writer.proofs.Writing.{accepted-drawable, writes-accepted, writes-refused}
 use Rattle.card.proofs.write.Statement.{statement}
 use Rattle.card.proofs.write.Tie as tie
 

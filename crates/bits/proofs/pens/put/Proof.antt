@@ -17,7 +17,9 @@ rem-t9 c = rw (c .power .ensures) (pow-pos _)
 add-t10 : tie.Need-add-t10
 add-t10 c =
     let start = c .before .before .before .before in
-    rw (c .power .ensures) (record { fits = joined-fits (start .args .width) (start .args .pen .pending) (start .args .x % 2 ^ start .args .width) (omega arith) (mod-lt (start .args .x) (pow-pos _)) })
+    let args = start .args in
+    let below = mod-lt (args .x) (pow-pos (args .width)) in
+    rw (c .power .ensures) (record { fits = joined-fits (args .width) (args .pen .pending) (args .x % 2 ^ args .width) (omega arith) below })
 
 returns : tie.Need-returns
 returns c =

@@ -39,7 +39,12 @@ put-requires c κs =
       record {
         few = at-loop .loop .inv .2 .few;
         room =
-            omega (arith, run-length (now (start .args .xs)) w i (at-loop .loop .inv .0), suc-mul i w, mul-le-mul-right w (c .before .before .loop-test .taken));
+            omega (
+              arith,
+              run-length (now (start .args .xs)) w i (at-loop .loop .inv .0),
+              suc-mul i w,
+              mul-le-mul-right w (c .before .before .loop-test .taken),
+            );
       },
     )
 

@@ -1,4 +1,0 @@
--- What the contracts of this crate cite besides the yard's written meaning.
-pub mod Format
-pub mod Reading
-pub mod Writing

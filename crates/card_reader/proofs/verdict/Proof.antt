@@ -1,0 +1,100 @@
+-- The proof of `verdict`: the tests are made in parts, and a part that refuses is the verdict.
+use mathlib.Core.Path.{_≡_, sym, ap, _∙_}
+use native.Mathlib.Omega.{arith}
+use lib.ListN.{length}
+use denote.Ref.{now}
+use borrow.Author.Needs.{needs}
+use Rattle.yard.specs.Answers.{says, verdict}
+use Rattle.yard.specs.Card.{headOn}
+use Rattle.format.specs.Format.{Bounded}
+use Rattle.card_reader.specs.Reading.{headTests, sizeTests}
+use Rattle.format.proofs.Widths.{end-bounded}
+use Rattle.card_reader.proofs.Reading.{head-bounded, refused-head, refused-sizes, lists-then-end}
+use Rattle.card_reader.proofs.verdict.Statement.{statement}
+use Rattle.card_reader.proofs.verdict.Tie as tie
+
+-- the answers of the first two parts, for the card's own head
+first : (c : tie.After-head-tests)
+    → let args = c .before .before .before .before .args in
+    c .head-tests .result ≡ verdict (headTests (length (now (args .card))) (headOn (now (args .card)))) (says 0 0 0)
+first c = rw (c .before .before .before .before .pre .0) at (c .head-tests .ensures)
+
+second : (c : tie.After-size-tests)
+    → let args = c .before .before .before .before .before .before .before .args in
+    let bytes = now (args .card) in
+    c .size-tests .result ≡ verdict (sizeTests (length bytes) (headOn bytes) (args .lengths) (args .inbound) (args .codes)) (says 0 0 0)
+second c = rw (c .before .before .before .before .before .before .before .pre .0) at (c .size-tests .ensures)
+
+-- the counts have passed
+bounded : (c : tie.Else1) → Bounded (c .before .before .before .before .before .before .args .head)
+bounded c =
+    let args = c .before .before .before .before .before .before .args in
+    head-bounded (length (now (args .card))) (args .head) (sym (ap (λ r. r .number) (c .before .before .head-tests .ensures)) ∙ c .if1 .left)
+
+returns : tie.Need-returns
+returns c =
+    let args = c .before .before .before .before .before .before .args in (
+      refused-head (now (args .card)) (args .lengths) (args .inbound) (args .codes) (first (c .before .before)) (c .if1 .taken),
+      λ passed. absurd (c .if1 .taken passed),
+    )
+
+returns-2 : tie.Need-returns-2
+returns-2 c =
+    let else1 = c .before .before .before in
+    let args = else1 .before .before .before .before .before .before .args in (
+      refused-sizes (now (args .card)) (args .lengths) (args .inbound) (args .codes) (first (else1 .before .before)) (else1 .if1 .left)
+          (second (c .before .before))
+          (c .if2 .taken),
+      λ passed. absurd (c .if2 .taken passed),
+    )
+
+returns-3 : tie.Need-returns-3
+returns-3 c =
+    let listed = c .before .before .before .before .before in
+    let tested = listed .before .before .before in
+    let ended = tested .before .before in
+    let else2 = ended .before .before in
+    let else1 = else2 .before .before .before in
+    let start = else1 .before .before .before .before .before .before in
+    let args = start .args in (
+      rw (
+        c .unless .ensures,
+        listed .lists .ensures .0,
+        tested .test .ensures,
+        tested .before .length .ensures,
+        ended .ends .ensures,
+        ended .before .places-of .ensures,
+        start .pre .0,
+      )
+          (lists-then-end (now (args .card)) (args .lengths) (args .inbound) (args .codes) (first (else1 .before .before)) (else1 .if1 .left)
+          (second (else2 .before .before))
+          (else2 .if2 .left)),
+      λ _. listed .lists .ensures .1,
+    )
+
+lists-requires : tie.Need-lists-requires
+lists-requires c κs =
+    let else1 = c .before .before .before .before .before .before .before .before .before in
+    let within = bounded else1 in
+    (within, omega (arith, within .trains), omega (arith, within .cars))
+
+ends-requires : tie.Need-ends-requires
+ends-requires c κs = rw (c .places-of .ensures) (omega (arith, end-bounded (bounded (c .before .before .before .before))))
+
+pub verdict-spec : {M : Type 1} → statement M
+verdict-spec =
+    tie.close
+    (tie.spec
+    (λ c κs. search needs)
+    returns
+    (λ c κs. bounded c)
+    returns-2
+    (λ c κs. bounded (c .before .before .before))
+    ends-requires
+    (λ c κs. bounded (c .before .before .before .before .before))
+    (λ c κs. search needs)
+    lists-requires
+    (λ c κs. search needs)
+    (λ c. search needs)
+    (λ c. search needs)
+    returns-3)

@@ -1,0 +1,50 @@
+-- The lists on a card with a given head, and the reader's tests in the parts in which it makes them.
+use Prim.Native.Nat.{ℕ}
+use mathlib.Core.Path.{_≡_}
+use mathlib.Core.List.{List, [], _∷_}
+use lib.Dec.{leb, eqb}
+use lib.ListN.{take}
+use Rattle.yard.specs.declared.Answer.{Answer}
+use Rattle.yard.specs.declared.Head.{Head}
+use Rattle.yard.specs.Limits.{limits}
+use Rattle.yard.specs.Answers.{says, test, listTest}
+use Rattle.yard.specs.Calls.{countTests}
+use Rattle.yard.specs.Card.{layout, headLength, cardLength}
+use Rattle.intake.specs.Tests.{listTests}
+use Rattle.bits.specs.Fields.{fieldsAt}
+use Rattle.format.specs.Format.{placesOf}
+
+abbrev pub lengthsOn : List ℕ → Head → List ℕ
+lengthsOn bytes h = fieldsAt bytes (placesOf h .lengths) (layout (h .edition) .number) (h .trains)
+
+abbrev pub inboundOn : List ℕ → Head → List ℕ
+inboundOn bytes h = fieldsAt bytes (placesOf h .inbound) (layout (h .edition) .number) (h .cars)
+
+abbrev pub codesOn : List ℕ → Head → List ℕ
+codesOn bytes h = fieldsAt bytes (placesOf h .codes) (h .steps) (h .cars)
+
+-- before the lists: 10 for an empty card, 11, 10 for less than a head, and 1
+abbrev pub headTests : ℕ → Head → List Answer
+headTests size h =
+    test (leb 1 size) (says 10 1 0) ∷
+    test (eqb (h .edition) 1) (says 11 (h .edition) 0) ∷
+    test (leb (headLength h) size) (says 10 (headLength h) 0) ∷
+    countTests limits (h .cars) (h .trains) (h .tracks) (h .room) (h .steps)
+
+-- the sizes: 10 for a card shorter than the whole, and 4 for the three buffers
+abbrev pub sizeTests : ℕ → Head → ℕ → ℕ → ℕ → List Answer
+sizeTests size h lengths inbound codes =
+    test (leb (cardLength h) size) (says 10 (cardLength h) 0) ∷
+    listTest 1 (leb (h .trains) lengths) ∷
+    listTest 2 (leb (h .cars) inbound) ∷
+    listTest 3 (leb (h .cars) codes) ∷
+    []
+
+-- 2 and 3 for the lists that the card has
+abbrev pub nightTestsOn : List ℕ → Head → List Answer
+nightTestsOn bytes h = listTests (lengthsOn bytes h) (inboundOn bytes h)
+
+-- arrays that have these lists at their front
+pub record Held (bytes : List ℕ) (h : Head) (trains order : List ℕ) : Type 0 where
+  pub lengths : take (h .trains) trains ≡ lengthsOn bytes h
+  pub inbound : take (h .cars) order ≡ inboundOn bytes h
