@@ -49,7 +49,8 @@ pub extern "C" fn altairpeg_replay(
     on: &mut [u16],
     at: &mut [u16],
 ) -> Answer
-    ensures { λ r. ⌜ Replays (planGiven (now (lengths .entry)) (now (inbound .entry)) (now (codes .entry)) counts) stage (now (on .entry)) (now (at .entry)) r (now (on .exit)) (now (at .exit)) ⌝ }
+    ensures { λ r. ⌜ Replays (planGiven (now (lengths .entry)) (now (inbound .entry)) (now (codes .entry)) counts) stage
+        (now (on .entry)) (now (at .entry)) r (now (on .exit)) (now (at .exit)) ⌝ }
 {
     plans::replay(lengths, inbound, codes, counts, stage, on, at)
 }
@@ -62,7 +63,8 @@ pub extern "C" fn altairpeg_read(
     inbound: &mut [u16],
     codes: &mut [u16],
 ) -> CardAnswer
-    ensures { λ r. ⌜ Reads (now (card .entry)) (now (lengths .entry)) (now (inbound .entry)) (now (codes .entry)) r (now (lengths .exit)) (now (inbound .exit)) (now (codes .exit)) ⌝ }
+    ensures { λ r. ⌜ Reads (now (card .entry)) (now (lengths .entry)) (now (inbound .entry)) (now (codes .entry)) r
+        (now (lengths .exit)) (now (inbound .exit)) (now (codes .exit)) ⌝ }
 {
     card::read(card, lengths, inbound, codes)
 }

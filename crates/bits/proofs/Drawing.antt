@@ -9,8 +9,8 @@ use lib.ListN.{length, getD, take, drop, replicate, length-append, length-replic
 use lib.Pow.{pow-pos, shr-shr, split, high}
 use lib.Seq.{length-take-le, take-suc, take-at, drop-at, drop-drop, sets, sets-eq}
 use Rattle.yard.specs.Bits.{toBits, packed, unpacked, wholeBytes, toBytes, bitsOf}
-use Rattle.yard.proofs.Bits.{Below, fits-run, length-toBits, toBits-low, packed-append, unpacked-packed, unpacked-zeros, length-toBytes}
-use Rattle.yard.proofs.Bits.{length-packed, sum-replicate}
+use Rattle.yard.proofs.cards.Bits.{Below, fits-run, length-toBits, toBits-low, packed-append, unpacked-packed, unpacked-zeros, length-toBytes}
+use Rattle.yard.proofs.cards.Bits.{length-packed, sum-replicate}
 use Rattle.bits.specs.declared.pens.Pen.{Pen}
 use Rattle.bits.specs.Pens.{fresh, drawn, Draws}
 use Rattle.bits.proofs.Words.{joined-low}

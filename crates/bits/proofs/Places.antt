@@ -13,8 +13,8 @@ use lib.Seq.{drop-drop, drop-nil, drop-cons, drop-append-add, set-at, take-at, g
 use borrow.Author.Tests.{eq-eqb, ne-eqb}
 use Rattle.yard.specs.Words.{every}
 use Rattle.yard.specs.Bits.{toBits, fromBits, unpacked, wholeBytes, bitsOf}
-use Rattle.yard.proofs.Bits.{Below, below-drop, fromBits-step, fromBits-toBits, fromBits-below, bitsOf-below, length-bitsOf, length-unpacked}
-use Rattle.yard.proofs.Bits.{unpacked-append, sum-replicate}
+use Rattle.yard.proofs.cards.Bits.{Below, below-drop, fromBits-step, fromBits-toBits, fromBits-below, bitsOf-below, length-bitsOf, length-unpacked}
+use Rattle.yard.proofs.cards.Bits.{unpacked-append, sum-replicate}
 use Rattle.bits.specs.Fields.{fieldAt, fieldsAt, endsAt}
 
 -- A number of v + w bits is one of v bits before one of w.

@@ -12,12 +12,12 @@ use borrow.Author.Count.{below-more}
 use Rattle.yard.specs.Words.{tally, most, place, upFrom}
 use Rattle.yard.specs.Night.{cars, itemOf, broken, breaks, breaksIn, breaksBefore}
 use Rattle.yard.specs.Demands.{Within, Listed}
-use Rattle.yard.proofs.Numbers.{le-or-lt}
-use Rattle.yard.proofs.Lists.{total-same, upFrom-bounds}
-use Rattle.yard.proofs.Codes.{total-last}
-use Rattle.yard.proofs.Counting.{length-passing}
-use Rattle.yard.proofs.Trains.{itemOf-suc, firstCar-suc, breaksBefore-train}
-use Rattle.yard.proofs.DerivedPlan.{map-item, by-car, length-by-car}
+use Rattle.yard.proofs.general.Numbers.{le-or-lt}
+use Rattle.yard.proofs.general.Lists.{total-same, upFrom-bounds}
+use Rattle.yard.proofs.yards.Codes.{total-last}
+use Rattle.yard.proofs.yards.Counting.{length-passing}
+use Rattle.yard.proofs.yards.Trains.{itemOf-suc, firstCar-suc, breaksBefore-train}
+use Rattle.yard.proofs.yards.DerivedPlan.{map-item, by-car, length-by-car}
 use Rattle.scan.proofs.Running.{tally-most, most-suc}
 use Rattle.trains.specs.Walk.{Walked, Ends}
 use Rattle.trains.specs.Turned.{turned}

@@ -11,8 +11,8 @@ use Rattle.yard.specs.Night.{Plan, planOf}
 use Rattle.yard.specs.Limits.{limits}
 use Rattle.yard.specs.Answers.{written}
 use Rattle.yard.specs.Card.{card, cardPlan, writerAnswer, Writes, Reads}
-use Rattle.yard.proofs.Card.{cardPlan-cars, cardPlan-codes}
-use Rattle.yard.proofs.CardCalls.{Told, read-told, written-then-read, read-then-written}
+use Rattle.yard.proofs.cards.Card.{cardPlan-cars, cardPlan-codes}
+use Rattle.yard.proofs.cards.CardCalls.{Told, read-told, written-then-read, read-then-written}
 
 -- the plan that a caller of the reader has in hand: the first items of the buffers, and the answer's numbers
 abbrev pub planRead : CardAnswer → List ℕ → List ℕ → List ℕ → Plan

@@ -17,10 +17,10 @@ use Rattle.yard.specs.Calls.{countTests}
 use Rattle.yard.specs.Bits.{Bytes, unpacked, bitsOf}
 use Rattle.yard.specs.Card.{layout, headWidths, listWidths, cardLength, headOn, listsOn, cardPlan, rightLength, endsRight, noHead, readerSays}
 use Rattle.yard.specs.Card.{readerVerdict, readerAnswer, judged, HeadWithin, Reads}
-use Rattle.yard.proofs.Verdict.{passed-append, verdict-append, verdict-passes, verdict-nested, stops-all, goes-on-all, written-accepted, written-refused}
-use Rattle.yard.proofs.Tests.{counts-passed}
-use Rattle.yard.proofs.Bits.{sum-replicate, unpacked-append}
-use Rattle.yard.proofs.Card.{cardPlan-trains, cardPlan-cars, cardPlan-codes}
+use Rattle.yard.proofs.calls.Verdict.{passed-append, verdict-append, verdict-passes, verdict-nested, stops-all, goes-on-all, written-accepted, written-refused}
+use Rattle.yard.proofs.calls.Tests.{counts-passed}
+use Rattle.yard.proofs.cards.Bits.{sum-replicate, unpacked-append}
+use Rattle.yard.proofs.cards.Card.{cardPlan-trains, cardPlan-cars, cardPlan-codes}
 use Rattle.yard.proofs.CardDemands.{reader-accepts-exactly}
 use Rattle.intake.proofs.Tests.{last-test}
 use Rattle.bits.specs.Fields.{fieldAt, fieldsAt, endsAt}

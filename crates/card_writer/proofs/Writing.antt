@@ -14,9 +14,9 @@ use Rattle.yard.specs.Answers.{says, verdict, listTest, codeTest}
 use Rattle.yard.specs.Calls.{nightCounts, nightTests}
 use Rattle.yard.specs.Bits.{packed, toBytes}
 use Rattle.yard.specs.Card.{layout, headWidths, headFields, listWidths, headOf, fields, cardLength, card, writerAnswer, Writes}
-use Rattle.yard.proofs.Verdict.{stops-all, goes-on-all, written-accepted, written-refused}
-use Rattle.yard.proofs.Bits.{length-toBits, packed-append, length-packed, sum-replicate}
-use Rattle.yard.proofs.Card.{headBits, widths-sum, card-length}
+use Rattle.yard.proofs.calls.Verdict.{stops-all, goes-on-all, written-accepted, written-refused}
+use Rattle.yard.proofs.cards.Bits.{length-toBits, packed-append, length-packed, sum-replicate}
+use Rattle.yard.proofs.cards.Card.{headBits, widths-sum, card-length}
 use Rattle.yard.proofs.CardDemands.{writer-accepts-exactly}
 use Rattle.intake.proofs.Passed.{counts-within}
 use Rattle.bits.specs.declared.pens.Pen.{Pen}

@@ -13,13 +13,13 @@ use lib.Seq.{drop-append-seam}
 use borrow.Author.Tests.{le-leb, lt-leb}
 use Rattle.yard.specs.Words.{keep, upFrom}
 use Rattle.yard.specs.Codes.{F, usable, usableCodes, codeNumber}
-use Rattle.yard.proofs.Bools.{same-test, not-so}
-use Rattle.yard.proofs.Numbers.{le-or-lt}
-use Rattle.yard.proofs.Lists.{keep-append, keep-same, keep-none, upFrom-bounds}
-use Rattle.yard.proofs.Counting.{gaps-top}
-use Rattle.yard.proofs.Least.{F-usable}
-use Rattle.yard.proofs.Plans.{usable-gaps}
-use Rattle.yard.proofs.DerivedPlan.{codeNumber-usable}
+use Rattle.yard.proofs.general.Bools.{same-test, not-so}
+use Rattle.yard.proofs.general.Numbers.{le-or-lt}
+use Rattle.yard.proofs.general.Lists.{keep-append, keep-same, keep-none, upFrom-bounds}
+use Rattle.yard.proofs.yards.Counting.{gaps-top}
+use Rattle.yard.proofs.yards.Least.{F-usable}
+use Rattle.yard.proofs.yards.Plans.{usable-gaps}
+use Rattle.yard.proofs.yards.DerivedPlan.{codeNumber-usable}
 use Rattle.scan.specs.Front.{Under, Front}
 use Rattle.codes.specs.Ring.{lost}
 use Rattle.scan.proofs.Front.{front-items, front-over}

@@ -13,14 +13,14 @@ use borrow.Author.Tests.{le-leb, lt-leb, leb-true}
 use Rattle.yard.specs.Words.{upFrom}
 use Rattle.yard.specs.Replay.{bit}
 use Rattle.yard.specs.Codes.{usable, fewestTracks}
-use Rattle.yard.proofs.Bools.{clash, same-test}
-use Rattle.yard.proofs.Lists.{length-upFrom}
-use Rattle.yard.proofs.Numbers.{below-suc}
-use Rattle.yard.proofs.First.{first-found}
-use Rattle.yard.proofs.Codes.{bit-above}
-use Rattle.yard.proofs.Early.{Gaps, highest}
-use Rattle.yard.proofs.Plans.{usable-gaps}
-use Rattle.yard.proofs.DerivedPlan.{map-item}
+use Rattle.yard.proofs.general.Bools.{clash, same-test}
+use Rattle.yard.proofs.general.Lists.{length-upFrom}
+use Rattle.yard.proofs.general.Numbers.{below-suc}
+use Rattle.yard.proofs.general.First.{first-found}
+use Rattle.yard.proofs.yards.Codes.{bit-above}
+use Rattle.yard.proofs.yards.Early.{Gaps, highest}
+use Rattle.yard.proofs.yards.Plans.{usable-gaps}
+use Rattle.yard.proofs.yards.DerivedPlan.{map-item}
 use Rattle.codes.specs.Gap.{height, widestGap, gaps}
 
 -- ---- the highest set bit

@@ -12,9 +12,9 @@ use lib.Seq.{getD-set-same, getD-set-other}
 use borrow.Author.Tests.{le-leb, lt-leb}
 use Rattle.yard.specs.Words.{first}
 use Rattle.yard.specs.Codes.{F, fewestSteps}
-use Rattle.yard.proofs.Numbers.{le-or-lt}
-use Rattle.yard.proofs.First.{first-hits, first-ends}
-use Rattle.yard.proofs.Counting.{take-F, take-F-all}
+use Rattle.yard.proofs.general.Numbers.{le-or-lt}
+use Rattle.yard.proofs.general.First.{first-hits, first-ends}
+use Rattle.yard.proofs.yards.Counting.{take-F, take-F-all}
 use Rattle.codes.specs.Ring.{lost, Ring}
 
 pub F-next : (W h : ℕ) → F W (suc h) + lost W h ≡ 2 * F W h

@@ -17,13 +17,14 @@ use Rattle.yard.specs.Derived.{stepsNeeded, derivedCodes, derivedPlan}
 use Rattle.yard.specs.Answers.{says, test, verdict, onto, written, listTest, limitTest, roomTest}
 use Rattle.yard.specs.Calls.{nightCounts, nightTests, deriveAnswer, DeriveGiven, Derives}
 use Rattle.yard.specs.Demands.{Listed}
-use Rattle.yard.proofs.Numbers.{le-or-lt}
-use Rattle.yard.proofs.First.{first-same}
-use Rattle.yard.proofs.Verdict.{Passed, passed-append, verdict-append, verdict-nested, verdict-passes, stops, goes-on, stops-all, goes-on-all, written-refused}
-use Rattle.yard.proofs.Tests.{counts-passed, list-passed}
-use Rattle.yard.proofs.Formed.{lists-passed}
-use Rattle.yard.proofs.DerivedPlan.{derived-length, derived-sorts}
-use Rattle.yard.proofs.PlanYard.{passes-codes, pullSize-codes}
+use Rattle.yard.proofs.general.Numbers.{le-or-lt}
+use Rattle.yard.proofs.general.First.{first-same}
+use Rattle.yard.proofs.calls.Verdict.{Passed, passed-append, verdict-append, verdict-nested, verdict-passes, stops, goes-on, stops-all, goes-on-all}
+use Rattle.yard.proofs.calls.Verdict.{written-refused}
+use Rattle.yard.proofs.calls.Tests.{counts-passed, list-passed}
+use Rattle.yard.proofs.yards.Formed.{lists-passed}
+use Rattle.yard.proofs.yards.DerivedPlan.{derived-length, derived-sorts}
+use Rattle.yard.proofs.yards.PlanYard.{passes-codes, pullSize-codes}
 use Rattle.intake.proofs.Tests.{last-test}
 use Rattle.sorting.specs.Closed.{fullTest}
 use Rattle.sorting.specs.Sums.{pullOf, setBelow, above, firstAbove}

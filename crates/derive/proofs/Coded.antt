@@ -10,8 +10,8 @@ use Rattle.yard.specs.Night.{Night, cars, breaksBefore, mostBreaks}
 use Rattle.yard.specs.Codes.{F, usableCodes, codeNumber, fewestSteps}
 use Rattle.yard.specs.Derived.{stepsNeeded, derivedCodes}
 use Rattle.yard.specs.Demands.{Listed}
-use Rattle.yard.proofs.Least.{F-usable}
-use Rattle.yard.proofs.DerivedPlan.{map-item, length-by-car, fewest-enough, before-most, derived-length}
+use Rattle.yard.proofs.yards.Least.{F-usable}
+use Rattle.yard.proofs.yards.DerivedPlan.{map-item, length-by-car, fewest-enough, before-most, derived-length}
 use Rattle.scan.specs.Front.{Under, Front}
 use Rattle.scan.proofs.Front.{front-item, front-fits, front-behind}
 use Rattle.breaks.specs.Numbers.{Numbers}

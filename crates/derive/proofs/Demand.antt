@@ -13,8 +13,8 @@ use Rattle.yard.specs.Derived.{derivedCodes, derivedPlan}
 use Rattle.yard.specs.Demands.{Least, HasRoom, Sorts, Sortable, OverfullStep}
 use Rattle.yard.specs.Answers.{says, onto, FirstFails}
 use Rattle.yard.specs.Calls.{deriveAsks, deriveAnswer, DeriveGiven, Derives}
-use Rattle.yard.proofs.Fronts.{front-taken, front-left}
-use Rattle.yard.proofs.Verdict.{written-accepted, written-refused}
+use Rattle.yard.proofs.general.Fronts.{front-taken, front-left}
+use Rattle.yard.proofs.calls.Verdict.{written-accepted, written-refused}
 use Rattle.yard.proofs.Demands.{LeastPlan, derive-accepts-exactly, derive-refuses-exactly}
 use Rattle.yard.proofs.Demands.{derive-least, derive-limit-exactly, derive-room-exactly}
 

@@ -7,7 +7,7 @@ use Rattle.yard.specs.declared.Head.{Head}
 use Rattle.yard.specs.Night.{sum}
 use Rattle.yard.specs.Card.{layout, widths}
 use Rattle.yard.specs.Limits.{limits}
-use Rattle.yard.proofs.Card.{widths-sum}
+use Rattle.yard.proofs.cards.Card.{widths-sum}
 use Rattle.yard.specs.Card.{HeadWithin}
 use Rattle.format.specs.Format.{Narrow, Bounded, placesOf}
 

@@ -15,11 +15,11 @@ use Rattle.yard.specs.Night.{Night, cars}
 use Rattle.yard.specs.Answers.{says, verdict, countTest}
 use Rattle.yard.specs.Calls.{countTests, nightTests}
 use Rattle.yard.specs.Demands.{InLimits, Listed}
-use Rattle.yard.proofs.Bools.{not-so}
-use Rattle.yard.proofs.Lists.{count-upFrom-in, upFrom-bounds}
-use Rattle.yard.proofs.Verdict.{Passed, verdict-passes}
-use Rattle.yard.proofs.Tests.{counts-passed}
-use Rattle.yard.proofs.Formed.{count-at, lists-passed}
+use Rattle.yard.proofs.general.Bools.{not-so}
+use Rattle.yard.proofs.general.Lists.{count-upFrom-in, upFrom-bounds}
+use Rattle.yard.proofs.calls.Verdict.{Passed, verdict-passes}
+use Rattle.yard.proofs.calls.Tests.{counts-passed}
+use Rattle.yard.proofs.yards.Formed.{count-at, lists-passed}
 use Rattle.intake.specs.Tests.{listTests}
 use Rattle.scan.proofs.Range.{between}
 

@@ -10,7 +10,7 @@ use borrow.Author.Tests.{lt-leb, lt-ltb}
 use Rattle.yard.specs.Words.{most}
 use Rattle.yard.specs.Night.{itemOf}
 use Rattle.yard.specs.Answers.{says, test, wideCode, codeTest}
-use Rattle.yard.proofs.First.{first-fails}
+use Rattle.yard.proofs.general.First.{first-fails}
 use Rattle.scan.proofs.Running.{item-most}
 
 pub none-wide : (h : ℕ) (codes : List ℕ) → most (λ code. code) codes < 2 ^ h → says 0 0 0 ≡ codeTest h codes

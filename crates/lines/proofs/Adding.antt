@@ -8,7 +8,7 @@ use lib.ListN.{length, getD, take, drop, set, length-append, length-take, length
 use lib.Seq.{length-take-le, take-all, take-suc, take-suc-set, take-append-le, drop-drop, drop-set-lt}
 use Rattle.io.specs.Counts.{Counts}
 use Rattle.yard.specs.Answers.{onto}
-use Rattle.yard.proofs.Fronts.{front-taken, front-left, front-long}
+use Rattle.yard.proofs.general.Fronts.{front-taken, front-left, front-long}
 use Rattle.lines.specs.Text.{Adds}
 
 -- what is left off once need not be looked at again

@@ -11,7 +11,7 @@ use lib.ListN.{length, length-append}
 use borrow.Author.Tests.{lt-ltb}
 use Rattle.io.specs.Digits.{glyph, digits}
 use Rattle.yard.specs.Words.{upFrom, first}
-use Rattle.yard.proofs.First.{first-le, first-least}
+use Rattle.yard.proofs.general.First.{first-le, first-least}
 use Rattle.lines.specs.Text.{ascii, width, numeral, labelled}
 use Rattle.lines.specs.Lines.{refusalLine, countsLine, carList, trainLine}
 

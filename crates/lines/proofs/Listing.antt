@@ -9,8 +9,8 @@ use lib.ListN.{length, getD, take}
 use lib.Seq.{take-suc}
 use Rattle.yard.specs.Words.{upFrom}
 use Rattle.yard.specs.Night.{sum, carsOf}
-use Rattle.yard.proofs.Lists.{total-append}
-use Rattle.yard.proofs.Trains.{itemOf-suc, firstCar-suc}
+use Rattle.yard.proofs.general.Lists.{total-append}
+use Rattle.yard.proofs.yards.Trains.{itemOf-suc, firstCar-suc}
 use Rattle.lines.specs.Text.{Adds, labelled}
 use Rattle.lines.specs.Lines.{carList, trainLine, eachTo}
 use Rattle.lines.proofs.Adding.{adds-then, adds-same}

@@ -7,8 +7,8 @@ use native.Mathlib.Nat.{le-trans, pow-le-pow-right}
 use lib.Dec.{ltb}
 use borrow.Author.Tests.{lt-ltb, le-ltb}
 use Rattle.io.specs.Digits.{digits, Fewest}
-use Rattle.yard.proofs.First.{first-found}
-use Rattle.yard.proofs.Numbers.{le-or-lt}
+use Rattle.yard.proofs.general.First.{first-found}
+use Rattle.yard.proofs.general.Numbers.{le-or-lt}
 use Rattle.lines.specs.Text.{width, numeral}
 
 -- a number of 64 bits has no more than twenty digits

@@ -13,10 +13,10 @@ use lib.Seq.{take-suc, getD-set-same, getD-set-other}
 use borrow.Author.Tests.{lt-ltb, eqb-true, eqb-false}
 use Rattle.yard.specs.Words.{tally, count, listed}
 use Rattle.yard.specs.Answers.{badPlace}
-use Rattle.yard.proofs.Bools.{split}
-use Rattle.yard.proofs.Numbers.{le-or-lt}
-use Rattle.yard.proofs.Lists.{count-append}
-use Rattle.yard.proofs.Formed.{bad-at}
+use Rattle.yard.proofs.general.Bools.{split}
+use Rattle.yard.proofs.general.Numbers.{le-or-lt}
+use Rattle.yard.proofs.general.Lists.{count-append}
+use Rattle.yard.proofs.yards.Formed.{bad-at}
 use Rattle.marks.specs.Marks.{marked, markable, Marks, unfit}
 use Rattle.scan.proofs.Range.{between}
 

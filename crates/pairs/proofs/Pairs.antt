@@ -11,11 +11,11 @@ use borrow.Author.Tests.{eq-eqb, ne-eqb}
 use Rattle.yard.specs.Words.{tally, total, first, upFrom}
 use Rattle.yard.specs.Night.{sum, trainOf}
 use Rattle.yard.specs.Answers.{ruled}
-use Rattle.yard.proofs.First.{first-from, first-none, first-hit, first-found, first-fails}
-use Rattle.yard.proofs.Codes.{total-last}
-use Rattle.yard.proofs.Trains.{train-of, train-in}
-use Rattle.yard.proofs.Tests.{item-at}
-use Rattle.yard.proofs.Numbers.{le-or-lt}
+use Rattle.yard.proofs.general.First.{first-from, first-none, first-hit, first-found, first-fails}
+use Rattle.yard.proofs.yards.Codes.{total-last}
+use Rattle.yard.proofs.yards.Trains.{train-of, train-in}
+use Rattle.yard.proofs.calls.Tests.{item-at}
+use Rattle.yard.proofs.general.Numbers.{le-or-lt}
 use Rattle.trains.specs.Walk.{Walked, Ends}
 use Rattle.trains.specs.Turned.{turned}
 use Rattle.trains.proofs.Walk.{train-here}

@@ -12,11 +12,11 @@ use Rattle.yard.specs.Replay.{passes}
 use Rattle.yard.specs.Demands.{Listed, NeverEarly}
 use Rattle.yard.specs.Answers.{says, verdict, onto, countTest, listTest, codeTest, earlyTest, roomTest}
 use Rattle.yard.specs.Calls.{nightCounts, replayAnswer, carTracks, carPlaces, Replays}
-use Rattle.yard.proofs.Verdict.{passed-append, verdict-passes, stops, goes-on, stops-all, goes-on-all, written-accepted, written-refused}
-use Rattle.yard.proofs.Tests.{count-passed, list-passed}
-use Rattle.yard.proofs.Plans.{early-passed, range-once}
-use Rattle.yard.proofs.PlanYard.{track-target, place-target}
-use Rattle.yard.proofs.EarlySearch.{early-test}
+use Rattle.yard.proofs.calls.Verdict.{passed-append, verdict-passes, stops, goes-on, stops-all, goes-on-all, written-accepted, written-refused}
+use Rattle.yard.proofs.calls.Tests.{count-passed, list-passed}
+use Rattle.yard.proofs.yards.Plans.{early-passed, range-once}
+use Rattle.yard.proofs.yards.PlanYard.{track-target, place-target}
+use Rattle.yard.proofs.yards.EarlySearch.{early-test}
 use Rattle.sorting.specs.Sums.{setBelow}
 use Rattle.order.specs.Order.{sortedTo}
 use Rattle.order.proofs.Keys.{sortedTo-is}

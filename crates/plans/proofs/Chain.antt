@@ -12,9 +12,9 @@ use Rattle.yard.specs.Replay.{passes, fullestPull}
 use Rattle.yard.specs.Demands.{InLimits, Listed}
 use Rattle.yard.specs.Answers.{says, verdict, listTest, codeTest, earlyTest, roomTest, orderTest}
 use Rattle.yard.specs.Calls.{nightTests, nightCounts, checkAnswer, Checks}
-use Rattle.yard.proofs.Verdict.{passed-append, verdict-passes, stops-all, goes-on-all}
-use Rattle.yard.proofs.Tests.{list-passed}
-use Rattle.yard.proofs.Formed.{lists-passed}
+use Rattle.yard.proofs.calls.Verdict.{passed-append, verdict-passes, stops-all, goes-on-all}
+use Rattle.yard.proofs.calls.Tests.{list-passed}
+use Rattle.yard.proofs.yards.Formed.{lists-passed}
 use Rattle.intake.proofs.Passed.{counts-within}
 use Rattle.sorting.specs.Sums.{setBelow, fullestOf}
 use Rattle.plans.specs.Closed.{givenTests, soundTests, pairTest, Counted}

@@ -14,12 +14,12 @@ use Rattle.yard.specs.Replay.{yardAt, pullSize, fullestPull, trackOf, placeOf}
 use Rattle.yard.specs.Demands.{Within}
 use Rattle.yard.specs.Answers.{says, onto, FirstFails}
 use Rattle.yard.specs.Calls.{checkAsks, Checks, GoodPlan, replayAsks, replayAnswer, Replays, Replayable, carTracks, carPlaces}
-use Rattle.yard.proofs.Fronts.{front-taken, front-left}
-use Rattle.yard.proofs.Verdict.{written-accepted, written-refused}
-use Rattle.yard.proofs.Lists.{count-upFrom-in, upFrom-bounds, length-upFrom}
-use Rattle.yard.proofs.Trains.{most-above, most-reached}
-use Rattle.yard.proofs.DerivedPlan.{by-car, length-by-car}
-use Rattle.yard.proofs.PlanYard.{one-place}
+use Rattle.yard.proofs.general.Fronts.{front-taken, front-left}
+use Rattle.yard.proofs.calls.Verdict.{written-accepted, written-refused}
+use Rattle.yard.proofs.general.Lists.{count-upFrom-in, upFrom-bounds, length-upFrom}
+use Rattle.yard.proofs.yards.Trains.{most-above, most-reached}
+use Rattle.yard.proofs.yards.DerivedPlan.{by-car, length-by-car}
+use Rattle.yard.proofs.yards.PlanYard.{one-place}
 use Rattle.yard.proofs.Demands.{check-accepts-exactly, check-refuses-exactly, check-reports, replay-accepts-exactly, replay-refuses-exactly, replay-reports}
 
 -- ---- check

@@ -15,15 +15,15 @@ use Rattle.yard.specs.Night.{Plan, cars, pair}
 use Rattle.yard.specs.Replay.{passes, pullSize, fullestPull, firstOverfull, codeOf}
 use Rattle.yard.specs.Answers.{says, test, verdict, roomTest, codeTest, earlyTest, orderTest, ruled, unruled}
 use Rattle.yard.specs.Demands.{Within, Listed, CodesFormed, NeverEarly}
-use Rattle.yard.proofs.First.{first-le, first-same}
-use Rattle.yard.proofs.Lists.{count-head, count-tail, upFrom-bounds}
-use Rattle.yard.proofs.Verdict.{verdict-after, verdict-refused}
-use Rattle.yard.proofs.Plans.{early-passed, range-once}
-use Rattle.yard.proofs.Building.{order-ruled}
-use Rattle.yard.proofs.DerivedPlan.{by-car}
-use Rattle.yard.proofs.PlanYard.{passes-codes, pullSize-codes}
-use Rattle.yard.proofs.EarlySearch.{early-test}
-use Rattle.yard.proofs.Rights.{codes-passed}
+use Rattle.yard.proofs.general.First.{first-le, first-same}
+use Rattle.yard.proofs.general.Lists.{count-head, count-tail, upFrom-bounds}
+use Rattle.yard.proofs.calls.Verdict.{verdict-after, verdict-refused}
+use Rattle.yard.proofs.yards.Plans.{early-passed, range-once}
+use Rattle.yard.proofs.yards.Building.{order-ruled}
+use Rattle.yard.proofs.yards.DerivedPlan.{by-car}
+use Rattle.yard.proofs.yards.PlanYard.{passes-codes, pullSize-codes}
+use Rattle.yard.proofs.yards.EarlySearch.{early-test}
+use Rattle.yard.proofs.calls.Rights.{codes-passed}
 use Rattle.sorting.specs.Sums.{pullOf, setBelow, firstAbove, fullestOf}
 use Rattle.pairs.specs.Pairs.{unruledAt}
 use Rattle.sorting.specs.Closed.{waitTest, fullTest}

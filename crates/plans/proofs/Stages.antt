@@ -12,10 +12,10 @@ use Rattle.yard.specs.Words.{count, place}
 use Rattle.yard.specs.Night.{cars, trainOf, itemOf}
 use Rattle.yard.specs.Replay.{nextStep}
 use Rattle.yard.specs.Demands.{Within, EachOnce}
-use Rattle.yard.proofs.Lists.{count-head, count-tail, upFrom-bounds, keep-same}
-use Rattle.yard.proofs.Replay.{sorted-count}
-use Rattle.yard.proofs.Building.{train-cars}
-use Rattle.yard.proofs.DerivedPlan.{by-car}
+use Rattle.yard.proofs.general.Lists.{count-head, count-tail, upFrom-bounds, keep-same}
+use Rattle.yard.proofs.yards.Replay.{sorted-count}
+use Rattle.yard.proofs.yards.Building.{train-cars}
+use Rattle.yard.proofs.yards.DerivedPlan.{by-car}
 use Rattle.scan.specs.Front.{Front}
 use Rattle.scan.proofs.Front.{front-item, front-fits}
 use Rattle.order.specs.Order.{CarsOf, sortedTo, Keyed}

@@ -14,11 +14,11 @@ use Rattle.yard.specs.Codes.{usable, fewestTracks}
 use Rattle.yard.specs.Replay.{bit, nextStep}
 use Rattle.yard.specs.Answers.{says, test}
 use Rattle.yard.specs.Demands.{CodesBelow}
-use Rattle.yard.proofs.Bools.{and-left, and-right, not-so, not-true}
-use Rattle.yard.proofs.First.{first-none, first-fails}
-use Rattle.yard.proofs.Tests.{item-at}
-use Rattle.yard.proofs.Early.{Kept, kept-of-gaps}
-use Rattle.yard.proofs.Plans.{usable-gaps}
+use Rattle.yard.proofs.general.Bools.{and-left, and-right, not-so, not-true}
+use Rattle.yard.proofs.general.First.{first-none, first-fails}
+use Rattle.yard.proofs.calls.Tests.{item-at}
+use Rattle.yard.proofs.yards.Early.{Kept, kept-of-gaps}
+use Rattle.yard.proofs.yards.Plans.{usable-gaps}
 use Rattle.yard.specs.Waiting.{waits, lowestWaiting, someWaits, firstWaiting}
 use Rattle.codes.proofs.Gap.{usable-fewest}
 use Rattle.scan.specs.Front.{Under}

@@ -13,9 +13,9 @@ use lib.Ieee.Back.{round-whole, unsigned-back}
 use lib.Ieee.Bits.{ofBits-toBits}
 use borrow.Author.Tests.{lt-ltb, ltb-true}
 use Rattle.yard.specs.Price.{seconds, sixteenths, timing}
-use Rattle.yard.proofs.Price.{sixteen, sixteen-times, seconds-fits, seconds-worth, seconds-timing, timing-seconds, timing-most}
-use Rattle.yard.proofs.Bools.{not-so}
-use Rattle.yard.proofs.PriceDoubles.{lt-values}
+use Rattle.yard.proofs.prices.Price.{sixteen, sixteen-times, seconds-fits, seconds-worth, seconds-timing, timing-seconds, timing-most}
+use Rattle.yard.proofs.general.Bools.{not-so}
+use Rattle.yard.proofs.prices.PriceDoubles.{lt-values}
 
 abbrev pub scaled : Float → Float
 scaled x = mul binary64 x sixteen

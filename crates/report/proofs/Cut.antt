@@ -9,8 +9,8 @@ use lib.Seq.{length-take-le, take-all}
 use Rattle.yard.specs.Limits.{limits}
 use Rattle.yard.specs.Night.{Plan}
 use Rattle.yard.specs.Card.{cardPlan, readerVerdict}
-use Rattle.yard.proofs.Numbers.{le-or-lt}
-use Rattle.yard.proofs.CardCut.{reader-cut, long-refused}
+use Rattle.yard.proofs.general.Numbers.{le-or-lt}
+use Rattle.yard.proofs.cards.CardCut.{reader-cut, long-refused}
 use Rattle.lines.specs.Lines.{refusalLine}
 use Rattle.report.specs.Programs.{ofCard}
 use Rattle.report.proofs.Programs.{told-refused}

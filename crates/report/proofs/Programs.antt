@@ -19,12 +19,12 @@ use Rattle.yard.specs.Answers.{says, onto}
 use Rattle.yard.specs.Demands.{BuildsTrains}
 use Rattle.yard.specs.Calls.{Checks, Derives, checkAnswer, deriveAnswer, deriveTests}
 use Rattle.yard.specs.Card.{card, cardPlan, readerVerdict, readerAnswer, writerTests, writerAnswer, Reads, Writes}
-use Rattle.yard.proofs.Numbers.{le-or-lt}
-use Rattle.yard.proofs.Fronts.{front-taken, front-within}
-use Rattle.yard.proofs.DerivedPlan.{length-by-car}
-use Rattle.yard.proofs.Verdict.{verdict-done, written-accepted, written-refused}
-use Rattle.yard.proofs.Card.{cardPlan-cars, cardPlan-codes}
-use Rattle.yard.proofs.CardCalls.{read-told, reader-says}
+use Rattle.yard.proofs.general.Numbers.{le-or-lt}
+use Rattle.yard.proofs.general.Fronts.{front-taken, front-within}
+use Rattle.yard.proofs.yards.DerivedPlan.{length-by-car}
+use Rattle.yard.proofs.calls.Verdict.{verdict-done, written-accepted, written-refused}
+use Rattle.yard.proofs.cards.Card.{cardPlan-cars, cardPlan-codes}
+use Rattle.yard.proofs.cards.CardCalls.{read-told, reader-says}
 use Rattle.card.proofs.Calls.{plan-read}
 use Rattle.lines.specs.Text.{Adds}
 use Rattle.lines.specs.Lines.{refusalLine, countsLine, trainLine, eachTo}

@@ -18,8 +18,8 @@ use Rattle.yard.specs.Derived.{derivedPlan}
 use Rattle.yard.specs.Calls.{checkAnswer, deriveAnswer}
 use Rattle.yard.specs.Card.{card, cardPlan, readerVerdict}
 use Rattle.yard.specs.Demands.{BuildsTrains}
-use Rattle.yard.proofs.Lists.{total-append}
-use Rattle.yard.proofs.Trains.{itemOf-suc, train-end}
+use Rattle.yard.proofs.general.Lists.{total-append}
+use Rattle.yard.proofs.yards.Trains.{itemOf-suc, train-end}
 use Rattle.lines.specs.Text.{Adds}
 use Rattle.lines.specs.Lines.{refusalLine, countsLine, trainLine, eachTo}
 use Rattle.lines.proofs.Lengths.{refusal-short, counts-short, train-short}

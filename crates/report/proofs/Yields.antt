@@ -15,10 +15,10 @@ use Rattle.yard.specs.Answers.{says, listTest}
 use Rattle.yard.specs.Calls.{checkAnswer, deriveAnswer, GoodPlan}
 use Rattle.yard.specs.Card.{card, writerTests, writerAnswer, Writable}
 use Rattle.yard.specs.Demands.{Listed, BuildsTrains}
-use Rattle.yard.proofs.Verdict.{verdict-passes, verdict-first, passed-append}
+use Rattle.yard.proofs.calls.Verdict.{verdict-passes, verdict-first, passed-append}
 use Rattle.yard.proofs.Demands.{check-accepts-exactly, derive-accepts-exactly, derive-least}
 use Rattle.yard.proofs.CardDemands.{writer-accepts-exactly}
-use Rattle.yard.proofs.CardCalls.{written-longest}
+use Rattle.yard.proofs.cards.CardCalls.{written-longest}
 
 -- what a checked plan is known to be
 pub record Good (p : Plan) : Type 0 where

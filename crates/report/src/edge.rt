@@ -1,35 +1,22 @@
-// The two programs at the system's edge: a card is read on standard input, what is put out for it
-// goes to standard output, and where either fails a line on standard error says so.
-//
-// No contract can say which bytes are read and written; runs stand in for that (tests/programs.py).
-use crate::put_out;
+// The two programs at the system's edge: what is read on standard input, and a line on standard error where reading or
+// writing fails. No contract can say which bytes are read and written; runs stand in for that (tests/programs.py).
+ghost use mathlib.Core.Path.{_≡_};
+ghost use Rattle.io.specs.Counts.{Counts};
 
-// Prints document 01's lines for a card, or the refusal.
-pub fn run_nightcard() {
-    run(b"nightcard", false);
+// What was read of standard input: so many bytes, and whether it ended there or filled the buffer, or a read failed.
+pub struct Taken {
+    pub whole: bool,
+    pub bytes: usize,
 }
 
-// Writes the card of the plan that is derived for a card's night, or prints the refusal.
-pub fn run_nightplan() {
-    run(b"nightplan", true);
-}
-
-// The first 4,096 bytes of an input give the answer of the whole (`nightcard-puts-out`,
-// `nightplan-puts-out` in proofs/Outcome.antt), so what follows them is not read.
-fn run(name: &[u8], anew: bool) {
-    let mut card = io::buffer();
-    let n = io::read_full(libc::STDIN_FILENO, &mut card);
-    if n < card.len() {
-        if !ended() {
-            failed(name, b": standard input can't be read\n");
-            return;
-        }
-    }
-    let mut out = io::buffer();
-    let end = put_out(&card[..n], &mut out, anew);
-    if !io::write_all(libc::STDOUT_FILENO, &out[..end]) {
-        failed(name, b": standard output can't be written\n");
-    }
+// Reads standard input. The first 4,096 bytes of an input give the answer of the whole (`nightcard-puts-out`,
+// `nightplan-puts-out` in proofs/Outcome.antt), so a program reads no more than its buffer holds.
+pub fn input(card: &mut [u8]) -> Taken
+    ensures { λ r. ⌜ Counts (r .bytes) (now (card .exit)) ⌝ }
+{
+    let bytes = io::read_full(libc::STDIN_FILENO, card);
+    let whole = bytes == card.len() || ended();
+    Taken { whole, bytes }
 }
 
 // A read that fails and the end of the input both end `io::read_full`; only at the end does one
@@ -39,8 +26,13 @@ fn ended() -> bool {
     libc::read(libc::STDIN_FILENO, &mut more) == 0
 }
 
-// A program has no exit status: the line on standard error is all that tells.
-fn failed(name: &[u8], what: &[u8]) {
-    io::write_all(libc::STDERR_FILENO, name);
-    io::write_all(libc::STDERR_FILENO, what);
+// Says on standard error what failed, where something did: a program has no exit status, so the line is all that tells.
+pub fn said(done: bool, name: &[u8], what: &[u8]) -> bool
+    ensures { λ r. ⌜ r ≡ done ⌝ }
+{
+    if !done {
+        io::write_all(libc::STDERR_FILENO, name);
+        io::write_all(libc::STDERR_FILENO, what);
+    }
+    done
 }

@@ -1,8 +1,9 @@
 // What the two programs put out for a card: document 01's lines, and the card of the derived plan.
 mod edge; // edge.rt: the programs' reading and writing
 
-pub use edge::run_nightcard;
-pub use edge::run_nightplan;
+pub use edge::Taken;
+pub use edge::input;
+pub use edge::said;
 ghost use lib.ListN.{length};
 ghost use Rattle.io.specs.Counts.{Counts};
 ghost use Rattle.yard.specs.Night.{nightOf, planGiven};
@@ -13,6 +14,7 @@ ghost use Rattle.report.specs.Programs.{checkedLines, ofDerived, cardIn,
 // (`nightcard-puts-out` in proofs/Outcome.antt).
 pub fn nightcard(card: &[u8], text: &mut [u8]) -> usize
     ensures { λ r. ⌜ Adds (nightcardText (now (card .entry))) (now (text .entry)) 0 r (now (text .exit)) ⌝ }
+    ensures { λ r. ⌜ Counts r (now (text .exit)) ⌝ }
 {
     put_out(card, text, false)
 }
@@ -21,6 +23,7 @@ pub fn nightcard(card: &[u8], text: &mut [u8]) -> usize
 // derived plan's card, or a refusal of the reader or of derive (`nightplan-puts-out`).
 pub fn nightplan(card: &[u8], out: &mut [u8]) -> usize
     ensures { λ r. ⌜ Adds (nightplanIn (length (now (out .entry))) (now (card .entry))) (now (out .entry)) 0 r (now (out .exit)) ⌝ }
+    ensures { λ r. ⌜ Counts r (now (out .exit)) ⌝ }
 {
     put_out(card, out, true)
 }

@@ -6,7 +6,7 @@ use native.Mathlib.Nat.{sub-zero}
 use native.Mathlib.Numerals.{add-one}
 use native.Mathlib.Omega.{arith}
 use Rattle.yard.specs.Words.{first}
-use Rattle.yard.proofs.First.{first-hits, first-goes, first-ends}
+use Rattle.yard.proofs.general.First.{first-hits, first-goes, first-ends}
 
 pub left-start : (p : ℕ → Bool) (n a : ℕ) → first p (n - 0) a ≡ first p n a
 left-start p n a = ap (λ (k : ℕ). first p k a) (sub-zero n)

@@ -4,7 +4,7 @@ use mathlib.Core.Bool.{true, _&&_}
 use Prim.Native.Nat.{ℕ, _≤_}
 use lib.Dec.{leb}
 use borrow.Author.Tests.{leb-true}
-use Rattle.yard.proofs.Bools.{and-left, and-right}
+use Rattle.yard.proofs.general.Bools.{and-left, and-right}
 
 pub between : (low x high : ℕ) → (leb low x && leb x high) ≡ true → (low ≤ x) × (x ≤ high)
 between low x high t =

@@ -10,7 +10,7 @@ use lib.ListN.{length, getD, take, drop, drop-of-length-le}
 use lib.Seq.{take-suc, drop-cons}
 use Rattle.yard.specs.Words.{tally, total, most, upFrom}
 use Rattle.yard.specs.Night.{sum}
-use Rattle.yard.proofs.Lists.{total-append}
+use Rattle.yard.proofs.general.Lists.{total-append}
 
 -- what is left, with its first item taken off, and where nothing is left
 pub total-next : (f : ℕ → ℕ) (l : List ℕ) (i : ℕ) → i < length l → total f (drop i l) ≡ f (getD l i 0) + total f (drop (i + 1) l)

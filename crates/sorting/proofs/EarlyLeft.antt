@@ -10,8 +10,8 @@ use lib.ListN.{length, getD}
 use borrow.Author.Tests.{le-leb, lt-leb}
 use Rattle.yard.specs.Words.{first}
 use Rattle.yard.specs.Night.{itemOf}
-use Rattle.yard.proofs.First.{first-hits, first-goes, first-ends}
-use Rattle.yard.proofs.Tests.{item-at}
+use Rattle.yard.proofs.general.First.{first-hits, first-goes, first-ends}
+use Rattle.yard.proofs.calls.Tests.{item-at}
 use Rattle.yard.specs.Waiting.{waits, lowestWaiting, someWaits, firstWaiting}
 use Rattle.sorting.specs.declared.early.Early.the-variants.{At, Never}
 use Rattle.sorting.specs.Early.{earlyFound}

@@ -10,8 +10,8 @@ use lib.Dec.{ltb, eqb, lit<}
 use borrow.Author.Tests.{eq-eqb, ne-eqb, lt-ltb, le-ltb}
 use Rattle.yard.specs.Replay.{bit, nextStep}
 use Rattle.yard.specs.Waiting.{waits}
-use Rattle.yard.proofs.First.{first-ends}
-use Rattle.yard.proofs.Replay.{nextStep-step, nextStep-from}
+use Rattle.yard.proofs.general.First.{first-ends}
+use Rattle.yard.proofs.yards.Replay.{nextStep-step, nextStep-from}
 
 -- the next step of a code is as far as the zeros below its lowest set bit from there on, and no further than h
 pub next-zeros : (k h x s : ℕ) → s ≤ h → h ≤ s + k → nextStep h x s ≡ min h (s + trailingZeros k (x / 2 ^ s))

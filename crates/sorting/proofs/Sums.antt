@@ -6,9 +6,9 @@ use native.Mathlib.Nat.{zero-add}
 use native.Mathlib.Omega.{arith}
 use borrow.Author.Tests.{le-ltb}
 use Rattle.yard.specs.Words.{upFrom}
-use Rattle.yard.proofs.First.{first-fails}
-use Rattle.yard.proofs.Lists.{count-upFrom-in}
-use Rattle.yard.proofs.Trains.{most-above}
+use Rattle.yard.proofs.general.First.{first-fails}
+use Rattle.yard.proofs.general.Lists.{count-upFrom-in}
+use Rattle.yard.proofs.yards.Trains.{most-above}
 use Rattle.sorting.specs.Sums.{pullOf, above, firstAbove, fullestOf}
 
 pub never-above : (C h : ℕ) (codes : List ℕ) → fullestOf codes h ≤ C → firstAbove C codes h ≡ h

@@ -10,11 +10,11 @@ use lib.Seq.{drop-cons, ext-getD, getD-append-add, getD-drop, getD-set-same, get
 use Rattle.yard.specs.Words.{count, place}
 use Rattle.yard.specs.Night.{cars}
 use Rattle.yard.specs.Demands.{Within, EachOnce}
-use Rattle.yard.proofs.Numbers.{le-or-lt, below-suc, compared}
-use Rattle.yard.proofs.Lists.{count-upFrom-in, upFrom-bounds}
-use Rattle.yard.proofs.Order.{place-right, place-here, place-among}
-use Rattle.yard.proofs.Formed.{count-at, place-holds}
-use Rattle.yard.proofs.DerivedPlan.{map-item, length-by-car}
+use Rattle.yard.proofs.general.Numbers.{le-or-lt, below-suc, compared}
+use Rattle.yard.proofs.general.Lists.{count-upFrom-in, upFrom-bounds}
+use Rattle.yard.proofs.general.Order.{place-right, place-here, place-among}
+use Rattle.yard.proofs.yards.Formed.{count-at, place-holds}
+use Rattle.yard.proofs.yards.DerivedPlan.{map-item, length-by-car}
 use Rattle.scan.specs.Front.{Front}
 
 -- ---- car by car, in any order

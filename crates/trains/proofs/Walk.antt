@@ -7,7 +7,7 @@ use native.Mathlib.Omega.{arith}
 use lib.ListN.{length, getD, take}
 use lib.Seq.{take-length}
 use Rattle.yard.specs.Night.{sum, trainOf}
-use Rattle.yard.proofs.Trains.{train-of, train-end}
+use Rattle.yard.proofs.yards.Trains.{train-of, train-end}
 use Rattle.scan.proofs.Running.{sum-next}
 use Rattle.trains.specs.Walk.{Walked, Ends}
 

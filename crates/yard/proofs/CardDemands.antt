@@ -14,8 +14,8 @@ use Rattle.yard.specs.Answers.{says, Ask, AllHold, FirstFails}
 use Rattle.yard.specs.Calls.{listAsks}
 use Rattle.yard.specs.Card.{card, headLength, headOn, cardPlan, rightLength, endsRight, writerOwn, writerAsks, writerAnswer, Writable}
 use Rattle.yard.specs.Card.{bytesAsk, editionAsk, endAsk, headCounts, sizeAsks, readerAsks, readerVerdict, Readable}
-use Rattle.yard.proofs.Asks.{Right, Sound, holds-append, sound-append, accepted-exactly, refused-exactly, plain-right}
-use Rattle.yard.proofs.Rights.{at-most-right, length-right, buffer-right, code-right}
+use Rattle.yard.proofs.calls.Asks.{Right, Sound, holds-append, sound-append, accepted-exactly, refused-exactly, plain-right}
+use Rattle.yard.proofs.calls.Rights.{at-most-right, length-right, buffer-right, code-right}
 use Rattle.yard.proofs.Demands.{counts-sound, counts-hold, lists-sound, lists-hold, opening-sound, opening-holds}
 
 -- ---- the writer
@@ -135,6 +135,7 @@ module _ (L : Limits) (bytes : List ℕ) (lengthsSize inboundSize codesSize : �
       let exactly = accepted-exactly (says 0 0 0) refl (readerAsks L bytes lengthsSize inboundSize codesSize) reader-sound in
       (λ e. reader-holds .0 (exactly .0 e), λ r. exactly .1 (reader-holds .1 r))
 
-  pub reader-refuses-exactly : (k a b : ℕ) → 0 < k → (readerVerdict L bytes lengthsSize inboundSize codesSize ≡ says k a b) ↔ FirstFails k a b (readerAsks L bytes lengthsSize inboundSize codesSize)
+  pub reader-refuses-exactly : (k a b : ℕ) → 0 < k
+      → (readerVerdict L bytes lengthsSize inboundSize codesSize ≡ says k a b) ↔ FirstFails k a b (readerAsks L bytes lengthsSize inboundSize codesSize)
   unfolding readerVerdict
   reader-refuses-exactly k a b pos = refused-exactly (says 0 0 0) refl k a b pos (readerAsks L bytes lengthsSize inboundSize codesSize) reader-sound

@@ -15,13 +15,13 @@ use Rattle.yard.specs.Answers.{says, Ask, AllHold, FirstFails, countAsk,
 use Rattle.yard.specs.Calls.{countAsks, listAsks, opening, deriveAsks, deriveTests, deriveAnswer, DeriveGiven, Derivable, Derives, checkOwn}
 use Rattle.yard.specs.Calls.{checkAsks, checkTests, checkAnswer, GoodPlan, Checks, replayOwn, replayAsks, replayTests, replayAnswer, Replayable}
 use Rattle.yard.specs.Calls.{Replays}
-use Rattle.yard.proofs.Verdict.{verdict-done}
-use Rattle.yard.proofs.Plans.{range-once}
-use Rattle.yard.proofs.Least.{least-steps}
-use Rattle.yard.proofs.DerivedPlan.{derived-sorts}
-use Rattle.yard.proofs.Asks.{Sound, holds-append, sound-append, accepted-exactly, refused-exactly, refused-at}
-use Rattle.yard.proofs.Rights.{count-right, length-right, buffer-right, train-right, sum-right, inbound-right, code-right, early-right}
-use Rattle.yard.proofs.Rights.{room-right, overfull-full, order-right, limit-right}
+use Rattle.yard.proofs.calls.Verdict.{verdict-done}
+use Rattle.yard.proofs.yards.Plans.{range-once}
+use Rattle.yard.proofs.yards.Least.{least-steps}
+use Rattle.yard.proofs.yards.DerivedPlan.{derived-sorts}
+use Rattle.yard.proofs.calls.Asks.{Sound, holds-append, sound-append, accepted-exactly, refused-exactly, refused-at}
+use Rattle.yard.proofs.calls.Rights.{count-right, length-right, buffer-right, train-right, sum-right, inbound-right, code-right, early-right}
+use Rattle.yard.proofs.calls.Rights.{room-right, overfull-full, order-right, limit-right}
 
 -- ---- what the opening asks yields, by name
 

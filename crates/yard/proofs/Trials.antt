@@ -9,9 +9,11 @@ use Rattle.yard.specs.Card.{layout, fields, card}
 use Rattle.yard.specs.Trials.{trials, tables, agree}
 
 pub trials-agree : agree trials ≡ true
-unfolding trials deriveAnswer checkAnswer stepsNeeded derivedCodes derivedPlan usable usableCodes codeNumber fewestSteps yardAt passes pulled pullSize fullestPull early lowestEarly firstEarly firstOverfull built inOrder
+unfolding trials deriveAnswer checkAnswer stepsNeeded derivedCodes derivedPlan usable usableCodes codeNumber fewestSteps yardAt passes
+    pulled pullSize fullestPull early lowestEarly firstEarly firstOverfull built inOrder
 trials-agree = refl
 
 pub tables-agree : agree tables ≡ true
-unfolding tables layout card fields derivedPlan stepsNeeded derivedCodes usable usableCodes codeNumber fewestSteps fewestTracks yardAt pulled early lowestEarly firstEarly
+unfolding tables layout card fields derivedPlan stepsNeeded derivedCodes usable usableCodes codeNumber fewestSteps fewestTracks yardAt
+    pulled early lowestEarly firstEarly
 tables-agree = refl

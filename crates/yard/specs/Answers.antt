@@ -1,6 +1,6 @@
 -- What the yard is told. A call asks one thing after the other; the first ask that is not passed refuses it, with its number and
 -- details. What an ask asks, and what its details mean, stands beside it in plain words; that both readings agree is a law
--- (`Right` in proofs/Asks.antt).
+-- (`Right` in proofs/calls/Asks.antt).
 use Prim.Native.Nat.{ℕ, suc, _-_, _^_, _≤_}
 use mathlib.Core.Path.{_≡_}
 use mathlib.Core.Logic.{_⊎_}

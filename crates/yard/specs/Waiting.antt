@@ -1,5 +1,5 @@
 -- An early pull as the codes alone tell it: a car waits on the track of a step that its code does not name.
--- The replay itself is the standard (Replay.antt); that both find the same is a law, `early-test` in proofs/EarlySearch.antt.
+-- The replay itself is the standard (Replay.antt); that both find the same is a law, `early-test` in proofs/yards/EarlySearch.antt.
 use Prim.Native.Nat.{ℕ, _%_}
 use mathlib.Core.Bool.{Bool, not, _&&_}
 use mathlib.Core.List.{List}

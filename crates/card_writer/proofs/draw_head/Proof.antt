@@ -7,7 +7,7 @@ use lib.ListN.{length}
 use denote.Ref.{now}
 use borrow.Author.Needs.{needs}
 use Rattle.yard.specs.declared.Layout.{Layout}
-use Rattle.yard.proofs.Bits.{length-toBits}
+use Rattle.yard.proofs.cards.Bits.{length-toBits}
 use Rattle.bits.proofs.Drawing.{draws-none, draws-then}
 use Rattle.card_writer.proofs.Writing.{Stands, stands-first, stands-next, stands-ready}
 use Rattle.card_writer.proofs.draw_head.Statement.{statement}

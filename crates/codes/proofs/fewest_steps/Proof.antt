@@ -9,8 +9,8 @@ use borrow.Author.Tests.{lt-leb}
 use Rattle.yard.specs.Words.{first}
 use Rattle.yard.specs.Limits.{limits}
 use Rattle.yard.specs.Codes.{F, fewestSteps}
-use Rattle.yard.proofs.First.{first-goes}
-use Rattle.yard.proofs.Counting.{F-above}
+use Rattle.yard.proofs.general.First.{first-goes}
+use Rattle.yard.proofs.yards.Counting.{F-above}
 use Rattle.codes.specs.Ring.{Ring}
 use Rattle.codes.proofs.Steps.{F-next, ring-first, enough, fewest-found}
 use Rattle.codes.proofs.fewest_steps.Statement.{statement}

@@ -8,7 +8,7 @@ use lib.Pow.{pow-mono, pow-pos}
 use denote.Ref.{now}
 use Rattle.yard.specs.Limits.{limits}
 use Rattle.yard.specs.Codes.{usableCodes}
-use Rattle.yard.proofs.Counting.{F-above}
+use Rattle.yard.proofs.yards.Counting.{F-above}
 use Rattle.scan.specs.Front.{Front}
 use Rattle.codes.specs.Ring.{Ring}
 use Rattle.codes.proofs.Steps.{F-next, F-le, ring-first}

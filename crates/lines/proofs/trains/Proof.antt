@@ -5,7 +5,7 @@ use native.Mathlib.Omega.{arith}
 use denote.Ref.{now}
 use lib.ListN.{length, take}
 use Rattle.yard.specs.Night.{sum, carsOf}
-use Rattle.yard.proofs.Trains.{train-end}
+use Rattle.yard.proofs.yards.Trains.{train-end}
 use Rattle.lines.specs.Text.{Adds}
 use Rattle.lines.specs.Lines.{trainLine, eachTo}
 use Rattle.lines.proofs.Adding.{adds-none, adds-same}

@@ -6,7 +6,7 @@ use native.Mathlib.Nat.{suc-ne-zero}
 use lib.Dec.{eqb}
 use lib.ListN.{length}
 use Rattle.yard.specs.Answers.{says, listTest, verdict}
-use Rattle.yard.proofs.Verdict.{last-is, verdict-append, verdict-nested}
+use Rattle.yard.proofs.calls.Verdict.{last-is, verdict-append, verdict-nested}
 use Rattle.yard.specs.declared.Answer.{Answer}
 use Rattle.intake.specs.Tests.{listTests}
 use borrow.Author.Needs.{needs}

@@ -6,7 +6,7 @@ use native.Mathlib.Nat.{suc-ne-zero}
 use lib.Dec.{leb}
 use lib.ListN.{length}
 use Rattle.yard.specs.Answers.{says, listTest}
-use Rattle.yard.proofs.Verdict.{stops, goes-on, stops-all, goes-on-all, last-is}
+use Rattle.yard.proofs.calls.Verdict.{stops, goes-on, stops-all, goes-on-all, last-is}
 use Rattle.plans.specs.Closed.{givenTests}
 use borrow.Author.Needs.{needs}
 use Rattle.plans.proofs.placed.Statement.{statement}

@@ -6,8 +6,8 @@ use native.Mathlib.Nat.{suc-ne-zero}
 use lib.Dec.{leb}
 use Rattle.yard.specs.declared.Answer.{Answer}
 use Rattle.yard.specs.Answers.{says, codeTest}
-use Rattle.yard.proofs.Rights.{codes-passed}
-use Rattle.yard.proofs.Verdict.{stops, goes-on, last-is}
+use Rattle.yard.proofs.calls.Rights.{codes-passed}
+use Rattle.yard.proofs.calls.Verdict.{stops, goes-on, last-is}
 use Rattle.sorting.specs.Sums.{pullOf, firstAbove}
 use Rattle.sorting.specs.Closed.{waitTest, fullTest}
 use borrow.Author.Needs.{needs}

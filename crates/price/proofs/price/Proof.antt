@@ -8,7 +8,7 @@ use Rattle.price.specs.declared.Timing.the-variants.{Sixteenths, NotAllo
 use Rattle.yard.specs.Limits.{limits}
 use Rattle.yard.specs.Answers.{says}
 use Rattle.yard.specs.Price.{Priceable, seconds, priced, priceWorth, timing, sixteenths}
-use Rattle.yard.proofs.Price.{stepsOut, passesOut, pullOut, pushOut, refused-prices, done-prices, worth-small, limits-small}
+use Rattle.yard.proofs.prices.Price.{stepsOut, passesOut, pullOut, pushOut, refused-prices, done-prices, worth-small, limits-small}
 use Rattle.price.proofs.price.Statement.{statement}
 use Rattle.price.proofs.price.Tie as tie
 

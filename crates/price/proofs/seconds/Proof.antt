@@ -2,7 +2,7 @@
 use lib.Ieee.{ofBits}
 use mathlib.Core.Path.{_∙_, ap}
 use borrow.Author.Needs.{needs}
-use Rattle.yard.proofs.Price.{one-sixteenth, sixteenth}
+use Rattle.yard.proofs.prices.Price.{one-sixteenth, sixteenth}
 use lib.Ieee.{Float, mul, binary64}
 use Rattle.price.proofs.seconds.Statement.{statement}
 use Rattle.price.proofs.seconds.Tie as tie

@@ -7,8 +7,8 @@ use lib.Ieee.{Float, isNan, ofBits, neg}
 use denote.Floats.{passes}
 use Rattle.price.specs.declared.Timing.the-variants.{Sixteenths, NotAllowed}
 use Rattle.yard.specs.Price.{seconds}
-use Rattle.yard.proofs.Price.{seconds-value}
-use Rattle.yard.proofs.PriceDoubles.{value-number}
+use Rattle.yard.proofs.prices.Price.{seconds-value}
+use Rattle.yard.proofs.prices.PriceDoubles.{value-number}
 use Rattle.price.proofs.ThereAndBack.{scaled, Between, between-cut, between-few, scaled-number, timing-between, declined, accepted, unlike-bits}
 use Rattle.price.proofs.timing_of.Statement.{statement}
 use Rattle.price.proofs.timing_of.Tie as tie

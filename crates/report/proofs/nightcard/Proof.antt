@@ -6,7 +6,7 @@ use Rattle.report.proofs.nightcard.Tie as tie
 
 returns : tie.Need-returns
 unfolding nightcardText
-returns c = c .before .before .put-out .ensures .0
+returns c = c .before .before .put-out .ensures
 
 pub nightcard-spec : {M : Type 1} → statement M
 nightcard-spec =

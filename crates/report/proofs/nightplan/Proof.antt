@@ -6,7 +6,7 @@ use Rattle.report.proofs.nightplan.Tie as tie
 
 returns : tie.Need-returns
 unfolding nightplanIn
-returns c = c .before .before .put-out .ensures .0
+returns c = c .before .before .put-out .ensures
 
 pub nightplan-spec : {M : Type 1} → statement M
 nightplan-spec =

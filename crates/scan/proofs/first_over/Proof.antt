@@ -10,7 +10,7 @@ use lib.Dec.{leb}
 use lib.ListN.{length}
 use borrow.Author.Tests.{le-leb, lt-leb}
 use Rattle.yard.specs.Night.{itemOf}
-use Rattle.yard.proofs.Tests.{item-at}
+use Rattle.yard.proofs.calls.Tests.{item-at}
 use Rattle.scan.proofs.Left.{left-start, place-hits, place-goes, place-ends}
 use Rattle.scan.proofs.first_over.Statement.{statement}
 use Rattle.scan.proofs.first_over.Tie as tie

@@ -1,7 +1,7 @@
 -- The proof of `names`: the bit is the remainder by 2.
 use mathlib.Core.Path.{sym}
 use borrow.Author.Needs.{needs}
-use Rattle.yard.proofs.Codes.{tally-bit}
+use Rattle.yard.proofs.yards.Codes.{tally-bit}
 use Rattle.sorting.proofs.names.Statement.{statement}
 use Rattle.sorting.proofs.names.Tie as tie
 

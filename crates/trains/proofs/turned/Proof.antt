@@ -1,6 +1,6 @@
 -- The proof of `turned`: the item of car j + 1 stands at index j.
 use borrow.Author.Needs.{needs}
-use Rattle.yard.proofs.Trains.{itemOf-suc}
+use Rattle.yard.proofs.yards.Trains.{itemOf-suc}
 use Rattle.trains.proofs.turned.Statement.{statement}
 use Rattle.trains.proofs.turned.Tie as tie
 

@@ -16,7 +16,8 @@ loop-holds : tie.Need-loop-holds Inv-loop μ-loop
 loop-holds c = (omega arith, refl)
 
 loop-again : tie.Need-loop-again Inv-loop μ-loop
-loop-again c = (omega arith, length-set (c .before .loop .into) (c .before .loop .i) (c .before .before .args .n - c .before .loop .i) ∙ c .before .loop .inv .1)
+loop-again c =
+    (omega arith, length-set (c .before .loop .into) (c .before .loop .i) (c .before .before .args .n - c .before .loop .i) ∙ c .before .loop .inv .1)
 
 same-length : tie.Need-same-length Inv-loop μ-loop
 same-length c = c .before .loop .inv .1

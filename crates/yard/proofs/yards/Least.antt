@@ -16,16 +16,16 @@ use Rattle.yard.specs.Codes.{usable, usableCodes, codeNumber, F, fewestS
 use Rattle.yard.specs.Derived.{stepsNeeded, derivedCodes, derivedPlan}
 use Rattle.yard.specs.Answers.{ruled, unruled}
 use Rattle.yard.specs.Demands.{Within, Listed, CodesFormed, NeverEarly, BuildsTrains, Sorts}
-use Rattle.yard.proofs.Bools.{split, clash, and-left, and-right, not-so, not-true}
-use Rattle.yard.proofs.Numbers.{le-or-lt}
-use Rattle.yard.proofs.First.{first-from, first-le, first-hit, first-least}
-use Rattle.yard.proofs.Lists.{total-small, tally-small, count-kept, count-upFrom-in, upFrom-bounds, length-upFrom}
-use Rattle.yard.proofs.Codes.{total-next}
-use Rattle.yard.proofs.Counting.{passing, total-split, length-passing, F-counts, F-above}
-use Rattle.yard.proofs.Trains.{firstCar-suc, most-above, most-reached, breaks-suc, breaksBefore-train}
-use Rattle.yard.proofs.Formed.{count-at}
-use Rattle.yard.proofs.Plans.{never-gaps, usable-gaps}
-use Rattle.yard.proofs.Building.{train-cars, cars-train, came-once, builds-ruled, ruled-of-builds}
+use Rattle.yard.proofs.general.Bools.{split, clash, and-left, and-right, not-so, not-true}
+use Rattle.yard.proofs.general.Numbers.{le-or-lt}
+use Rattle.yard.proofs.general.First.{first-from, first-le, first-hit, first-least}
+use Rattle.yard.proofs.general.Lists.{total-small, tally-small, count-kept, count-upFrom-in, upFrom-bounds, length-upFrom}
+use Rattle.yard.proofs.yards.Codes.{total-next}
+use Rattle.yard.proofs.yards.Counting.{passing, total-split, length-passing, F-counts, F-above}
+use Rattle.yard.proofs.yards.Trains.{firstCar-suc, most-above, most-reached, breaks-suc, breaksBefore-train}
+use Rattle.yard.proofs.yards.Formed.{count-at}
+use Rattle.yard.proofs.yards.Plans.{never-gaps, usable-gaps}
+use Rattle.yard.proofs.yards.Building.{train-cars, cars-train, came-once, builds-ruled, ruled-of-builds}
 
 -- ---- counting what passes
 

@@ -13,8 +13,8 @@ use lib.Ieee.Nearest.{div-same}
 use lib.Ieee.Scale.{round-same}
 use lib.Ieee.Bits.{ofBits-toBits}
 use borrow.Author.Tests.{ltb-true, leb-true, eqb-true, lt-ltb, le-ltb, le-leb, eq-eqb}
-use Rattle.yard.proofs.Bools.{same-test}
-use Rattle.yard.proofs.Numbers.{le-or-lt}
+use Rattle.yard.proofs.general.Bools.{same-test}
+use Rattle.yard.proofs.general.Numbers.{le-or-lt}
 
 -- the bits of n of the smallest values
 abbrev bitsAt : Format → Bool → ℕ → ℕ

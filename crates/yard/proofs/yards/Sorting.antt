@@ -12,12 +12,12 @@ use borrow.Author.Tests.{eq-eqb, ne-eqb, lt-ltb, le-ltb, ltb-true, le-leb, lt-le
 use Rattle.yard.specs.Words.{tally, count, keep, place}
 use Rattle.yard.specs.Replay.{bit}
 use Rattle.yard.specs.Answers.{ruled}
-use Rattle.yard.proofs.Bools.{split}
-use Rattle.yard.proofs.Numbers.{le-or-lt, compared}
-use Rattle.yard.proofs.Lists.{count-keep}
-use Rattle.yard.proofs.Order.{before, before-left, before-right, before-across, before-keep, before-turned}
-use Rattle.yard.proofs.Codes.{low-suc, low-zero}
-use Rattle.yard.proofs.Replay.{sorted, sorted-count}
+use Rattle.yard.proofs.general.Bools.{split}
+use Rattle.yard.proofs.general.Numbers.{le-or-lt, compared}
+use Rattle.yard.proofs.general.Lists.{count-keep}
+use Rattle.yard.proofs.general.Order.{before, before-left, before-right, before-across, before-keep, before-turned}
+use Rattle.yard.proofs.yards.Codes.{low-suc, low-zero}
+use Rattle.yard.proofs.yards.Replay.{sorted, sorted-count}
 
 -- x stands before y: the smaller number first, and where they are equal as the tie says
 abbrev pub ahead : ℕ → ℕ → Bool → Bool

@@ -15,20 +15,20 @@ use Rattle.yard.specs.Words.{tally, total, keep, count, listed, place, f
 use Rattle.yard.specs.Night.{Night, Plan, cars, itemOf, trainOf}
 use Rattle.yard.specs.Replay.{bit, nextStep, target, codeOf, destination, yardAt, passes, pulled, pullSize, trackOf, placeOf}
 use Rattle.yard.specs.Demands.{Within, Listed, CodesFormed, NeverEarly, EachOnce}
-use Rattle.yard.proofs.Bools.{clash, not-so}
-use Rattle.yard.proofs.Numbers.{le-or-lt}
-use Rattle.yard.proofs.First.{first-found}
-use Rattle.yard.proofs.Lists.{count-keep, total-same, total-alike, total-length, count-upFrom-in, upFrom-bounds, length-upFrom}
-use Rattle.yard.proofs.Order.{place-among}
-use Rattle.yard.proofs.Replay.{Clean, sorted, sorted-count, standing-sorted}
-use Rattle.yard.proofs.Codes.{setBits, ones-setBits, ones-code}
-use Rattle.yard.proofs.Passes.{taken-total, rolled-set}
-use Rattle.yard.proofs.Standing.{location, standing-count, standing-where, standing-once}
-use Rattle.yard.proofs.Formed.{place-holds}
-use Rattle.yard.proofs.Trains.{itemOf-suc}
-use Rattle.yard.proofs.Plans.{clean-of-never}
-use Rattle.yard.proofs.Building.{train-cars, came-once, came-within}
-use Rattle.yard.proofs.DerivedPlan.{map-item, by-car, length-by-car}
+use Rattle.yard.proofs.general.Bools.{clash, not-so}
+use Rattle.yard.proofs.general.Numbers.{le-or-lt}
+use Rattle.yard.proofs.general.First.{first-found}
+use Rattle.yard.proofs.general.Lists.{count-keep, total-same, total-alike, total-length, count-upFrom-in, upFrom-bounds, length-upFrom}
+use Rattle.yard.proofs.general.Order.{place-among}
+use Rattle.yard.proofs.yards.Replay.{Clean, sorted, sorted-count, standing-sorted}
+use Rattle.yard.proofs.yards.Codes.{setBits, ones-setBits, ones-code}
+use Rattle.yard.proofs.yards.Passes.{taken-total, rolled-set}
+use Rattle.yard.proofs.yards.Standing.{location, standing-count, standing-where, standing-once}
+use Rattle.yard.proofs.yards.Formed.{place-holds}
+use Rattle.yard.proofs.yards.Trains.{itemOf-suc}
+use Rattle.yard.proofs.yards.Plans.{clean-of-never}
+use Rattle.yard.proofs.yards.Building.{train-cars, came-once, came-within}
+use Rattle.yard.proofs.yards.DerivedPlan.{map-item, by-car, length-by-car}
 
 -- ---- one place for each car
 

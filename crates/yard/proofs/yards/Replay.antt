@@ -12,10 +12,10 @@ use lib.ListN.{length}
 use borrow.Author.Tests.{eq-eqb, ne-eqb, eqb-true, eqb-false, lt-ltb, le-ltb, ltb-true, ltb-false}
 use Rattle.yard.specs.Words.{tally, total, count, keep, first, upFrom}
 use Rattle.yard.specs.Replay.{Yard, bit, nextStep, target, rollCar, rollIn, emptied, step, stage}
-use Rattle.yard.proofs.Bools.{split, clash, same-test, not-so}
-use Rattle.yard.proofs.First.{first-from, first-le, first-next}
-use Rattle.yard.proofs.Lists.{total-append, total-length, total-keep, total-add, total-none, total-same, count-append, count-keep, count-kept}
-use Rattle.yard.proofs.Lists.{keep-append, keep-same, keep-keep, keep-none}
+use Rattle.yard.proofs.general.Bools.{split, clash, same-test, not-so}
+use Rattle.yard.proofs.general.First.{first-from, first-le, first-next}
+use Rattle.yard.proofs.general.Lists.{total-append, total-length, total-keep, total-add, total-none, total-same, count-append, count-keep, count-kept}
+use Rattle.yard.proofs.general.Lists.{keep-append, keep-same, keep-keep, keep-none}
 
 -- ---- the next step of a code
 

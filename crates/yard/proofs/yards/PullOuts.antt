@@ -17,17 +17,17 @@ use Rattle.yard.specs.Replay.{bit, codeOf, destination, yardAt, pulled, 
 use Rattle.yard.specs.Derived.{stepsNeeded, derivedPlan}
 use Rattle.yard.specs.Answers.{ruled}
 use Rattle.yard.specs.Demands.{Within, Listed, Sorts}
-use Rattle.yard.proofs.Bools.{split, clash, and-both}
-use Rattle.yard.proofs.Numbers.{below-suc}
-use Rattle.yard.proofs.Lists.{total-small, tally-small}
-use Rattle.yard.proofs.Codes.{total-next, low-suc, low-all}
-use Rattle.yard.proofs.Replay.{Clean, target-set}
-use Rattle.yard.proofs.Early.{Gaps, highest, among-taken}
-use Rattle.yard.proofs.Counting.{passing, gaps-less, gaps-grow, gaps-top}
-use Rattle.yard.proofs.Plans.{destination-away, clean-of-never, never-gaps}
-use Rattle.yard.proofs.Building.{came-once, builds-ruled}
-use Rattle.yard.proofs.Least.{passing-more, passing-most, least-steps}
-use Rattle.yard.proofs.DerivedPlan.{coded, coded-sorts, derived-sorts}
+use Rattle.yard.proofs.general.Bools.{split, clash, and-both}
+use Rattle.yard.proofs.general.Numbers.{below-suc}
+use Rattle.yard.proofs.general.Lists.{total-small, tally-small}
+use Rattle.yard.proofs.yards.Codes.{total-next, low-suc, low-all}
+use Rattle.yard.proofs.yards.Replay.{Clean, target-set}
+use Rattle.yard.proofs.yards.Early.{Gaps, highest, among-taken}
+use Rattle.yard.proofs.yards.Counting.{passing, gaps-less, gaps-grow, gaps-top}
+use Rattle.yard.proofs.yards.Plans.{destination-away, clean-of-never, never-gaps}
+use Rattle.yard.proofs.yards.Building.{came-once, builds-ruled}
+use Rattle.yard.proofs.yards.Least.{passing-more, passing-most, least-steps}
+use Rattle.yard.proofs.yards.DerivedPlan.{coded, coded-sorts, derived-sorts}
 
 -- ---- a code without the steps that a test leaves out
 

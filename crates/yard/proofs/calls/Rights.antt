@@ -19,16 +19,16 @@ use Rattle.yard.specs.Demands.{Least, Within, NoneEmpty, EachOnce, Codes
 use Rattle.yard.specs.Demands.{EmptyTrain, WideCode, MetAt, BadPlace, TakesEarly, EarlyStep, OverfullStep, Ruled, BreaksRule}
 use Rattle.yard.specs.Answers.{plain, countAsk, emptyTrain, trainAsk, sumAsk, badPlace, firstBad, inboundAsk, lengthAsk, bufferAsk, limitAsk}
 use Rattle.yard.specs.Answers.{roomAsk, wideCode, codeAsk, codeTest, earlyAsk, ruled, unruled, firstUnruled, orderAsk}
-use Rattle.yard.proofs.Bools.{split, clash, and-left, and-right, and-both, not-true, not-so}
-use Rattle.yard.proofs.First.{first-least, first-hit}
-use Rattle.yard.proofs.Order.{place-among}
-use Rattle.yard.proofs.Tests.{passed-exactly, count-passed, sum-passed, none-passed}
-use Rattle.yard.proofs.Formed.{train-passed, inbound-passed, place-holds, count-at}
-use Rattle.yard.proofs.Plans.{InRange, range-once, pulled-came, early-passed, room-passed}
-use Rattle.yard.proofs.Building.{order-builds, order-ruled}
-use Rattle.yard.proofs.Least.{least-steps}
-use Rattle.yard.proofs.DerivedPlan.{derived-sorts}
-use Rattle.yard.proofs.Asks.{Right, least-exactly, first-is-least, plain-right, least-right}
+use Rattle.yard.proofs.general.Bools.{split, clash, and-left, and-right, and-both, not-true, not-so}
+use Rattle.yard.proofs.general.First.{first-least, first-hit}
+use Rattle.yard.proofs.general.Order.{place-among}
+use Rattle.yard.proofs.calls.Tests.{passed-exactly, count-passed, sum-passed, none-passed}
+use Rattle.yard.proofs.yards.Formed.{train-passed, inbound-passed, place-holds, count-at}
+use Rattle.yard.proofs.yards.Plans.{InRange, range-once, pulled-came, early-passed, room-passed}
+use Rattle.yard.proofs.yards.Building.{order-builds, order-ruled}
+use Rattle.yard.proofs.yards.Least.{least-steps}
+use Rattle.yard.proofs.yards.DerivedPlan.{derived-sorts}
+use Rattle.yard.proofs.calls.Asks.{Right, least-exactly, first-is-least, plain-right, least-right}
 
 -- ---- counts and lengths
 

@@ -15,11 +15,11 @@ use Rattle.yard.specs.Night.{Plan, sum}
 use Rattle.yard.specs.Bits.{Bytes, fromBits, packed, unpacked, wholeBytes, toBytes, bitsOf}
 use Rattle.yard.specs.Card.{layout, headWidths, headFields, headFrom, listWidths, widths, headLength, cardLength, headOf, fields, card, headOn}
 use Rattle.yard.specs.Card.{listsOn, cardPlan, rightLength, endsRight}
-use Rattle.yard.proofs.Bools.{and-left, and-right, and-both}
-use Rattle.yard.proofs.Lists.{total-append}
-use Rattle.yard.proofs.Bits.{Below, below-drop, Fits, fits-append, fits-run, fits-below, fits-split, sum-replicate, length-packed}
-use Rattle.yard.proofs.Bits.{length-unpacked, unpacked-append, packed-below, unpacked-packed, packed-unpacked-enough, unpacked-fits}
-use Rattle.yard.proofs.Bits.{length-bitsOf, length-toBytes, bitsOf-below, bitsOf-toBytes, toBytes-bitsOf, toBytes-below, toBytes-zeros}
+use Rattle.yard.proofs.general.Bools.{and-left, and-right, and-both}
+use Rattle.yard.proofs.general.Lists.{total-append}
+use Rattle.yard.proofs.cards.Bits.{Below, below-drop, Fits, fits-append, fits-run, fits-below, fits-split, sum-replicate, length-packed}
+use Rattle.yard.proofs.cards.Bits.{length-unpacked, unpacked-append, packed-below, unpacked-packed, packed-unpacked-enough, unpacked-fits}
+use Rattle.yard.proofs.cards.Bits.{length-bitsOf, length-toBytes, bitsOf-below, bitsOf-toBytes, toBytes-bitsOf, toBytes-below, toBytes-zeros}
 
 -- The bits of a card: its head, then as many as its lists have.
 abbrev pub headBits : Head → ℕ

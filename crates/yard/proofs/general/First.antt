@@ -6,9 +6,9 @@ use Prim.Native.Nat.{ℕ, zero, suc, _+_, _-_, _≤_, _<_}
 use native.Mathlib.Nat.{le-refl, eq-or-lt-of-le, add-zero}
 use native.Mathlib.Omega.{arith}
 use native.Mathlib.Numerals.{add-one}
-use Rattle.yard.proofs.Numbers.{le-or-lt}
+use Rattle.yard.proofs.general.Numbers.{le-or-lt}
 use Rattle.yard.specs.Words.{first}
-use Rattle.yard.proofs.Bools.{clash}
+use Rattle.yard.proofs.general.Bools.{clash}
 
 module _ (p : ℕ → Bool) where
   pub first-from : (n a : ℕ) → a ≤ first p n a

@@ -15,13 +15,13 @@ use Rattle.yard.specs.Replay.{bit, codeOf, destination, yardAt, pulled, 
 use Rattle.yard.specs.Codes.{lone, usable}
 use Rattle.yard.specs.Answers.{says, test, earlyTest, roomTest}
 use Rattle.yard.specs.Demands.{Within, EachOnce, NeverEarly, HasRoom}
-use Rattle.yard.proofs.Bools.{split, clash, same-test, and-left, and-right, and-both, not-true, not-so}
-use Rattle.yard.proofs.First.{first-le, first-none, first-fails, first-hit}
-use Rattle.yard.proofs.Lists.{count-upFrom-in, upFrom-bounds}
-use Rattle.yard.proofs.Replay.{Clean}
-use Rattle.yard.proofs.Early.{Kept, Gaps, clean-of-kept, kept-of-clean, gaps-of-kept, kept-of-gaps}
-use Rattle.yard.proofs.Standing.{standing-where}
-use Rattle.yard.proofs.Tests.{asks}
+use Rattle.yard.proofs.general.Bools.{split, clash, same-test, and-left, and-right, and-both, not-true, not-so}
+use Rattle.yard.proofs.general.First.{first-le, first-none, first-fails, first-hit}
+use Rattle.yard.proofs.general.Lists.{count-upFrom-in, upFrom-bounds}
+use Rattle.yard.proofs.yards.Replay.{Clean}
+use Rattle.yard.proofs.yards.Early.{Kept, Gaps, clean-of-kept, kept-of-clean, gaps-of-kept, kept-of-gaps}
+use Rattle.yard.proofs.yards.Standing.{standing-where}
+use Rattle.yard.proofs.calls.Tests.{asks}
 
 -- a search over the steps that refuses the first hit is passed exactly if there is none
 pub steps-passed : (p : ℕ → Bool) (h k a c : ℕ) → (test (leb h (first p h 0)) (says (suc k) a c) .number ≡ 0) ↔ ((j : ℕ) → j < h → p j ≡ false)

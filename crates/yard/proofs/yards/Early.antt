@@ -10,11 +10,11 @@ use lib.Dec.{ltb, eqb}
 use borrow.Author.Tests.{eq-eqb, eqb-true, lt-ltb, le-ltb}
 use Rattle.yard.specs.Words.{count, keep, first}
 use Rattle.yard.specs.Replay.{bit, nextStep, target, stage}
-use Rattle.yard.proofs.Bools.{split, clash, not-so}
-use Rattle.yard.proofs.Numbers.{le-or-lt, below-suc, below-more}
-use Rattle.yard.proofs.First.{first-none, first-hit, first-found}
-use Rattle.yard.proofs.Lists.{count-keep, count-kept}
-use Rattle.yard.proofs.Replay.{nextStep-from, sorted, sorted-count, taken, Clean, standing-sorted}
+use Rattle.yard.proofs.general.Bools.{split, clash, not-so}
+use Rattle.yard.proofs.general.Numbers.{le-or-lt, below-suc, below-more}
+use Rattle.yard.proofs.general.First.{first-none, first-hit, first-found}
+use Rattle.yard.proofs.general.Lists.{count-keep, count-kept}
+use Rattle.yard.proofs.yards.Replay.{nextStep-from, sorted, sorted-count, taken, Clean, standing-sorted}
 
 -- a car with this code does not wait at step s on the track of that step without its code naming it; and at no step
 abbrev pub KeptAt : ℕ → ℕ → ℕ → ℕ → Type 0

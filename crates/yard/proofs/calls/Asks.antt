@@ -11,9 +11,9 @@ use Rattle.yard.specs.declared.Answer.{Answer}
 use Rattle.yard.specs.Words.{first}
 use Rattle.yard.specs.Demands.{Least}
 use Rattle.yard.specs.Answers.{says, test, verdict, Ask, answers, AllHold, FirstFails, plain, leastOf}
-use Rattle.yard.proofs.Bools.{clash}
-use Rattle.yard.proofs.First.{first-from, first-hit, first-least}
-use Rattle.yard.proofs.Verdict.{verdict-refused}
+use Rattle.yard.proofs.general.Bools.{clash}
+use Rattle.yard.proofs.general.First.{first-from, first-hit, first-least}
+use Rattle.yard.proofs.calls.Verdict.{verdict-refused}
 
 -- ---- an ask is right, and a list of asks is sound
 

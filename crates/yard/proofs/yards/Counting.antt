@@ -17,12 +17,12 @@ use Rattle.yard.specs.Words.{tally, total, count, keep, first, upFrom}
 use Rattle.yard.specs.Night.{sum}
 use Rattle.yard.specs.Replay.{bit}
 use Rattle.yard.specs.Codes.{descending, a, F}
-use Rattle.yard.proofs.Bools.{clash, same-test, not-so}
-use Rattle.yard.proofs.Numbers.{le-or-lt, below-suc}
-use Rattle.yard.proofs.First.{first-from, first-le, first-none, first-hit}
-use Rattle.yard.proofs.Lists.{total-same, total-length, total-keep, total-none, upFrom-bounds}
-use Rattle.yard.proofs.Codes.{low-suc, low-all, bit-above, tally-bit, total-last}
-use Rattle.yard.proofs.Early.{Gaps, highest}
+use Rattle.yard.proofs.general.Bools.{clash, same-test, not-so}
+use Rattle.yard.proofs.general.Numbers.{le-or-lt, below-suc}
+use Rattle.yard.proofs.general.First.{first-from, first-le, first-none, first-hit}
+use Rattle.yard.proofs.general.Lists.{total-same, total-length, total-keep, total-none, upFrom-bounds}
+use Rattle.yard.proofs.yards.Codes.{low-suc, low-all, bit-above, tally-bit, total-last}
+use Rattle.yard.proofs.yards.Early.{Gaps, highest}
 
 -- ---- the bits of a number with a top bit more
 

@@ -10,9 +10,9 @@ use lib.Dec.{ltb, eqb, leb·suc-suc}
 use lib.ListN.{length}
 use borrow.Author.Tests.{eq-eqb, ne-eqb, eqb-true, eqb-false, lt-ltb, le-ltb, ltb-true}
 use Rattle.yard.specs.Words.{tally, count, keep, place, upFrom}
-use Rattle.yard.proofs.Bools.{split, clash}
-use Rattle.yard.proofs.Numbers.{le-or-lt}
-use Rattle.yard.proofs.Lists.{count-head, count-upFrom-in, count-upFrom-out, upFrom-bounds}
+use Rattle.yard.proofs.general.Bools.{split, clash}
+use Rattle.yard.proofs.general.Numbers.{le-or-lt}
+use Rattle.yard.proofs.general.Lists.{count-head, count-upFrom-in, count-upFrom-out, upFrom-bounds}
 
 -- the list meets a before b
 abbrev pub before : ℕ → ℕ → List ℕ → Bool

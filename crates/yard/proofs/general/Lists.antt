@@ -10,8 +10,8 @@ use lib.Dec.{eqb}
 use lib.ListN.{length}
 use borrow.Author.Tests.{eq-eqb, ne-eqb, eqb-true, eqb-false}
 use Rattle.yard.specs.Words.{tally, total, keep, count, upFrom}
-use Rattle.yard.proofs.Bools.{split, clash}
-use Rattle.yard.proofs.Numbers.{le-or-lt}
+use Rattle.yard.proofs.general.Bools.{split, clash}
+use Rattle.yard.proofs.general.Numbers.{le-or-lt}
 
 -- ---- sums
 

@@ -11,10 +11,10 @@ use lib.ListN.{length, getD, take}
 use borrow.Author.Tests.{le-leb, lt-leb, eqb-true}
 use Rattle.yard.specs.Words.{tally, total, most, count, keep, upFrom}
 use Rattle.yard.specs.Night.{sum, itemOf, trainOf, firstCar, carsOf, broken, breaks, breaksBefore}
-use Rattle.yard.proofs.Numbers.{le-or-lt}
-use Rattle.yard.proofs.Lists.{count-head, count-tail}
-use Rattle.yard.proofs.Codes.{total-last}
-use Rattle.yard.proofs.Counting.{length-passing}
+use Rattle.yard.proofs.general.Numbers.{le-or-lt}
+use Rattle.yard.proofs.general.Lists.{count-head, count-tail}
+use Rattle.yard.proofs.yards.Codes.{total-last}
+use Rattle.yard.proofs.yards.Counting.{length-passing}
 
 -- the item of a list by car, or by train
 pub itemOf-suc : (l : List ℕ) (i : ℕ) → itemOf l (suc i) ≡ getD l i 0

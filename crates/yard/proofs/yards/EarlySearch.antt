@@ -17,13 +17,13 @@ use Rattle.yard.specs.Replay.{bit, nextStep, target, codeOf, destination
 use Rattle.yard.specs.Answers.{says, test, earlyTest}
 use Rattle.yard.specs.Waiting.{waits, lowestWaiting, someWaits, firstWaiting}
 use Rattle.yard.specs.Demands.{Within, Listed}
-use Rattle.yard.proofs.Bools.{split, clash, same-test, and-left, and-right, and-both, not-true}
-use Rattle.yard.proofs.Numbers.{le-or-lt}
-use Rattle.yard.proofs.First.{first-from, first-le, first-none, first-hit, first-found, first-fails, first-same}
-use Rattle.yard.proofs.Replay.{Clean}
-use Rattle.yard.proofs.Early.{KeptAt, among-taken, clean-to}
-use Rattle.yard.proofs.Plans.{destination-away}
-use Rattle.yard.proofs.Building.{came-once, came-within}
+use Rattle.yard.proofs.general.Bools.{split, clash, same-test, and-left, and-right, and-both, not-true}
+use Rattle.yard.proofs.general.Numbers.{le-or-lt}
+use Rattle.yard.proofs.general.First.{first-from, first-le, first-none, first-hit, first-found, first-fails, first-same}
+use Rattle.yard.proofs.yards.Replay.{Clean}
+use Rattle.yard.proofs.yards.Early.{KeptAt, among-taken, clean-to}
+use Rattle.yard.proofs.yards.Plans.{destination-away}
+use Rattle.yard.proofs.yards.Building.{came-once, came-within}
 
 kept-at : (W h x s : ℕ) → waits W h x s ≡ false → KeptAt W h x s
 kept-at W h x s e unset n q = clash (and-both (ap not unset) (and-both (lt-ltb (nextStep h x s) h n) (eq-eqb (nextStep h x s % W) (s % W) q))) e

@@ -15,12 +15,12 @@ use Rattle.yard.specs.Night.{Night, cars, itemOf}
 use Rattle.yard.specs.Answers.{trainTest, emptyTrain, sumTest, badPlace, firstBad, inboundTest}
 use Rattle.yard.specs.Calls.{nightTests}
 use Rattle.yard.specs.Demands.{Within, Listed}
-use Rattle.yard.proofs.Bools.{split, clash, and-left, and-right, and-both, not-false}
-use Rattle.yard.proofs.Numbers.{le-or-lt}
-use Rattle.yard.proofs.Lists.{count-append, count-head, pigeonhole, count-upFrom-in, count-upFrom-out, upFrom-bounds}
-use Rattle.yard.proofs.Verdict.{Passed}
-use Rattle.yard.proofs.Order.{place-among}
-use Rattle.yard.proofs.Tests.{none-passed, sum-passed}
+use Rattle.yard.proofs.general.Bools.{split, clash, and-left, and-right, and-both, not-false}
+use Rattle.yard.proofs.general.Numbers.{le-or-lt}
+use Rattle.yard.proofs.general.Lists.{count-append, count-head, pigeonhole, count-upFrom-in, count-upFrom-out, upFrom-bounds}
+use Rattle.yard.proofs.calls.Verdict.{Passed}
+use Rattle.yard.proofs.general.Order.{place-among}
+use Rattle.yard.proofs.calls.Tests.{none-passed, sum-passed}
 
 -- ---- no number twice
 

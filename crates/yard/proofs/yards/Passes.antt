@@ -7,9 +7,9 @@ use native.Mathlib.Omega.{arith}
 use lib.ListN.{length}
 use Rattle.yard.specs.Words.{tally, total}
 use Rattle.yard.specs.Replay.{bit, stage}
-use Rattle.yard.proofs.Lists.{total-add, total-none, total-length, total-same, total-keep}
-use Rattle.yard.proofs.Codes.{setBits, setBits-suc}
-use Rattle.yard.proofs.Replay.{sorted, sorted-total, taken, Clean, standing-sorted, taken-kept, rollIn-rolled, rolled-next}
+use Rattle.yard.proofs.general.Lists.{total-add, total-none, total-length, total-same, total-keep}
+use Rattle.yard.proofs.yards.Codes.{setBits, setBits-suc}
+use Rattle.yard.proofs.yards.Replay.{sorted, sorted-total, taken, Clean, standing-sorted, taken-kept, rollIn-rolled, rolled-next}
 
 module _ (W h : ℕ) (code dest : ℕ → ℕ) (inbound : List ℕ) where
   -- what step k takes, weighed by any weight

@@ -14,17 +14,17 @@ use Rattle.yard.specs.Night.{Night, Plan, cars, sum, itemOf, trainOf, fi
 use Rattle.yard.specs.Replay.{bit, target, codeOf, destination, yardAt, built, inOrder}
 use Rattle.yard.specs.Answers.{ruled, unruled, orderTest}
 use Rattle.yard.specs.Demands.{Within, Listed, CodesFormed, NeverEarly, BuildsTrains}
-use Rattle.yard.proofs.Bools.{split, clash, same-test, and-left, and-right, and-both, not-so, not-true, not-false}
-use Rattle.yard.proofs.Numbers.{le-or-lt}
-use Rattle.yard.proofs.First.{first-le, first-none, first-fails, first-hit, first-from}
-use Rattle.yard.proofs.Lists.{count-keep, count-upFrom-in, count-upFrom-out, upFrom-bounds}
-use Rattle.yard.proofs.Order.{before, before-keep, before-turned, upFrom-before, in-order, Holds}
-use Rattle.yard.proofs.Codes.{low-all}
-use Rattle.yard.proofs.Replay.{sorted, sorted-count, standing-sorted, target-last}
-use Rattle.yard.proofs.Sorting.{ahead, sorted-before, ruled-ahead}
-use Rattle.yard.proofs.Trains.{itemOf-suc, firstCar-suc, train-of, train-in, train-end}
-use Rattle.yard.proofs.Plans.{trainOf-pos, clean-of-never}
-use Rattle.yard.proofs.Tests.{asks}
+use Rattle.yard.proofs.general.Bools.{split, clash, same-test, and-left, and-right, and-both, not-so, not-true, not-false}
+use Rattle.yard.proofs.general.Numbers.{le-or-lt}
+use Rattle.yard.proofs.general.First.{first-le, first-none, first-fails, first-hit, first-from}
+use Rattle.yard.proofs.general.Lists.{count-keep, count-upFrom-in, count-upFrom-out, upFrom-bounds}
+use Rattle.yard.proofs.general.Order.{before, before-keep, before-turned, upFrom-before, in-order, Holds}
+use Rattle.yard.proofs.yards.Codes.{low-all}
+use Rattle.yard.proofs.yards.Replay.{sorted, sorted-count, standing-sorted, target-last}
+use Rattle.yard.proofs.yards.Sorting.{ahead, sorted-before, ruled-ahead}
+use Rattle.yard.proofs.yards.Trains.{itemOf-suc, firstCar-suc, train-of, train-in, train-end}
+use Rattle.yard.proofs.yards.Plans.{trainOf-pos, clean-of-never}
+use Rattle.yard.proofs.calls.Tests.{asks}
 
 -- ---- lists as tests
 

@@ -16,11 +16,11 @@ use Rattle.yard.specs.Night.{sum, itemOf}
 use Rattle.yard.specs.Answers.{says, test, countTest, listTest, sumTest, badPlace, firstBad, inboundTest, wideCode, codeTest}
 use Rattle.yard.specs.Demands.{InLimits}
 use Rattle.yard.specs.Calls.{countTests}
-use Rattle.yard.proofs.Bools.{and-left, and-right, and-both, not-false}
-use Rattle.yard.proofs.Numbers.{le-or-lt}
-use Rattle.yard.proofs.First.{first-none, first-fails}
-use Rattle.yard.proofs.Verdict.{Passed, test-passed}
-use Rattle.yard.proofs.Bits.{Below}
+use Rattle.yard.proofs.general.Bools.{and-left, and-right, and-both, not-false}
+use Rattle.yard.proofs.general.Numbers.{le-or-lt}
+use Rattle.yard.proofs.general.First.{first-none, first-fails}
+use Rattle.yard.proofs.calls.Verdict.{Passed, test-passed}
+use Rattle.yard.proofs.cards.Bits.{Below}
 
 -- a refusal has a number of its own
 pub asks : (b : Bool) (k a c : ℕ) → (test b (says (suc k) a c) .number ≡ 0) ↔ (b ≡ true)
@@ -45,14 +45,11 @@ counts-passed L n m W C h =
     let tracks = count-passed 3 1 (L .tracks) W in
     let room = count-passed 4 1 (L .room) C in
     let steps = count-passed 5 0 (L .steps) h in (
-      λ t. record {
-        cars = cars .0 (t .0);
-        trains = trains .0 (t .1 .0);
-        tracks = tracks .0 (t .1 .1 .0);
-        room = room .0
-            (t .1 .1 .1 .0);
-        steps = steps .0 (t .1 .1 .1 .1 .0);
-      },
+      λ (n-in, more).
+          let (m-in, more) = more in
+          let (W-in, more) = more in
+          let (C-in, more) = more in
+          record { cars = cars .0 n-in; trains = trains .0 m-in; tracks = tracks .0 W-in; room = room .0 C-in; steps = steps .0 (more .0) },
       λ r. (cars .1 (r .cars), (trains .1 (r .trains), (tracks .1 (r .tracks), (room .1 (r .room), (steps .1 (r .steps), tt))))),
     )
 

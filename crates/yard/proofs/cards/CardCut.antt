@@ -19,12 +19,12 @@ use Rattle.yard.specs.Calls.{nightTests}
 use Rattle.yard.specs.Bits.{fromBits, toBits, unpacked, bitsOf}
 use Rattle.yard.specs.Card.{layout, headWidths, headFrom, listWidths, widths, headLength, cardLength, headOn, listsOn, cardPlan, rightLength, endsRight}
 use Rattle.yard.specs.Card.{headCounts, HeadWithin, readerVerdict}
-use Rattle.yard.proofs.Bools.{and-right, not-so, clash}
-use Rattle.yard.proofs.Lists.{total-append}
-use Rattle.yard.proofs.Bits.{length-bitsOf}
-use Rattle.yard.proofs.Verdict.{Passed}
-use Rattle.yard.proofs.Tests.{counts-passed}
-use Rattle.yard.proofs.Card.{widths-sum}
+use Rattle.yard.proofs.general.Bools.{and-right, not-so, clash}
+use Rattle.yard.proofs.general.Lists.{total-append}
+use Rattle.yard.proofs.cards.Bits.{length-bitsOf}
+use Rattle.yard.proofs.calls.Verdict.{Passed}
+use Rattle.yard.proofs.calls.Tests.{counts-passed}
+use Rattle.yard.proofs.cards.Card.{widths-sum}
 use Rattle.yard.proofs.CardDemands.{reader-accepts-exactly}
 
 -- ---- fields read from bits, where more bits follow
@@ -112,7 +112,8 @@ module _ (a b c : ℕ) where
   reader-parts : (bytes : List ℕ)
       → let h = headOn bytes in
       readerVerdict limits bytes a b c
-      ≡ verdict (begins (leb 1 (length bytes)) (leb (headLength h) (length bytes)) h) (body h (leb (cardLength h) (length bytes)) (cardPlan bytes) (endsRight bytes))
+      ≡ verdict (begins (leb 1 (length bytes)) (leb (headLength h) (length bytes)) h)
+      (body h (leb (cardLength h) (length bytes)) (cardPlan bytes) (endsRight bytes))
   unfolding readerVerdict rightLength counts begins body
   reader-parts bytes = refl
 

@@ -21,11 +21,11 @@ use Rattle.yard.specs.Limits.{Limits, limits}
 use Rattle.yard.specs.declared.Answer.{Answer}
 use Rattle.yard.specs.Answers.{says, verdict, answers, AllHold, FirstFails}
 use Rattle.yard.specs.Price.{seconds, positiveZero, sixteenths, timing, timingAsk, priceAsks, Priceable, priceWorth, priced, priceAnswer, Prices}
-use Rattle.yard.proofs.Bools.{clash, and-left, and-right, and-both}
-use Rattle.yard.proofs.Verdict.{verdict-done}
-use Rattle.yard.proofs.Asks.{Right, Sound, plain-right, accepted-exactly, refused-exactly}
-use Rattle.yard.proofs.Rights.{count-right}
-use Rattle.yard.proofs.PriceDoubles.{Compares, value-unique, mul-values, lt-values, eq-values, le-values}
+use Rattle.yard.proofs.general.Bools.{clash, and-left, and-right, and-both}
+use Rattle.yard.proofs.calls.Verdict.{verdict-done}
+use Rattle.yard.proofs.calls.Asks.{Right, Sound, plain-right, accepted-exactly, refused-exactly}
+use Rattle.yard.proofs.calls.Rights.{count-right}
+use Rattle.yard.proofs.prices.PriceDoubles.{Compares, value-unique, mul-values, lt-values, eq-values, le-values}
 
 -- ---- The double worth k sixteenths, for a k below 2^53.
 abbrev pub sixteen : Float
@@ -142,7 +142,8 @@ module _ (L : Limits) (steps passes : ℕ) (t : Timings) where
       ap (λ (r : Answer). priced r (cond (eqb (r .number) 0) (seconds (priceWorth steps passes t)) positiveZero)) done
 
   -- it refuses with k, A and B, and positive zero, exactly if the first ask that does not hold has number k, and tells A and B
-  pub price-refuses-exactly : (k a b : ℕ) → 0 < k → (priceAnswer L steps passes t ≡ priced (says k a b) positiveZero) ↔ FirstFails k a b (priceAsks L steps passes t)
+  pub price-refuses-exactly : (k a b : ℕ) → 0 < k
+      → (priceAnswer L steps passes t ≡ priced (says k a b) positiveZero) ↔ FirstFails k a b (priceAsks L steps passes t)
   unfolding priceAnswer
   price-refuses-exactly k a b some =
       let exactly = refused-exactly (says 0 0 0) refl k a b some (priceAsks L steps passes t) price-sound in (

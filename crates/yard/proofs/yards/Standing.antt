@@ -9,9 +9,9 @@ use lib.Dec.{eqb}
 use borrow.Author.Tests.{eq-eqb, ne-eqb, eqb-true, eqb-false}
 use Rattle.yard.specs.Words.{count, keep}
 use Rattle.yard.specs.Replay.{target, stage}
-use Rattle.yard.proofs.Bools.{split, clash}
-use Rattle.yard.proofs.Lists.{count-append, count-keep}
-use Rattle.yard.proofs.Replay.{rollIn-standing, taken, standing-next}
+use Rattle.yard.proofs.general.Bools.{split, clash}
+use Rattle.yard.proofs.general.Lists.{count-append, count-keep}
+use Rattle.yard.proofs.yards.Replay.{rollIn-standing, taken, standing-next}
 
 module _ (W h : ℕ) (code dest : ℕ → ℕ) where
   -- the track on which a car stands at a stage: it moves when that track is pulled

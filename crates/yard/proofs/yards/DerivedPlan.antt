@@ -16,16 +16,16 @@ use Rattle.yard.specs.Codes.{usable, usableCodes, codeNumber, F, fewestS
 use Rattle.yard.specs.Derived.{stepsNeeded, derivedCodes, derivedPlan}
 use Rattle.yard.specs.Answers.{ruled, unruled}
 use Rattle.yard.specs.Demands.{Within, Listed, CodesFormed, NeverEarly, BuildsTrains, Sorts}
-use Rattle.yard.proofs.Bools.{split, clash, and-left, and-right, not-so, not-true}
-use Rattle.yard.proofs.First.{first-le, first-hit}
-use Rattle.yard.proofs.Early.{Gaps}
-use Rattle.yard.proofs.Lists.{count-kept, count-upFrom-in, upFrom-bounds, length-upFrom}
-use Rattle.yard.proofs.Counting.{F-above}
-use Rattle.yard.proofs.Trains.{firstCar-suc, itemOf-suc, most-above, breaks-suc}
-use Rattle.yard.proofs.Formed.{count-at}
-use Rattle.yard.proofs.Plans.{never-gaps, usable-gaps}
-use Rattle.yard.proofs.Building.{train-cars, came-within, builds-ruled}
-use Rattle.yard.proofs.Least.{F-usable}
+use Rattle.yard.proofs.general.Bools.{split, clash, and-left, and-right, not-so, not-true}
+use Rattle.yard.proofs.general.First.{first-le, first-hit}
+use Rattle.yard.proofs.yards.Early.{Gaps}
+use Rattle.yard.proofs.general.Lists.{count-kept, count-upFrom-in, upFrom-bounds, length-upFrom}
+use Rattle.yard.proofs.yards.Counting.{F-above}
+use Rattle.yard.proofs.yards.Trains.{firstCar-suc, itemOf-suc, most-above, breaks-suc}
+use Rattle.yard.proofs.yards.Formed.{count-at}
+use Rattle.yard.proofs.yards.Plans.{never-gaps, usable-gaps}
+use Rattle.yard.proofs.yards.Building.{train-cars, came-within, builds-ruled}
+use Rattle.yard.proofs.yards.Least.{F-usable}
 
 -- ---- lists by number
 

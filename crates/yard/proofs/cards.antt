@@ -1,0 +1,5 @@
+-- Laws of night cards.
+pub mod Bits
+pub mod Card
+pub mod CardCalls
+pub mod CardCut

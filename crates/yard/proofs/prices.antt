@@ -1,0 +1,3 @@
+-- Laws of prices.
+pub mod PriceDoubles
+pub mod Price
