@@ -15,12 +15,14 @@ use Rattle.yard.specs.Limits.{Limits, limits}
 use Rattle.yard.specs.Night.{Plan}
 use Rattle.yard.specs.Answers.{says}
 use Rattle.yard.specs.Bits.{Bytes}
-use Rattle.yard.specs.Card.{layout, card, headLength, headOf, headOn, cardPlan, rightLength, endsRight, writerTests, writerAnswer, Writable, Writes, readerTests, HeadWithin, Readable, noHead, readerSays, readerVerdict, readerAnswer, judged, Reads}
+use Rattle.yard.specs.Card.{layout, card, headLength, headOf, headOn, cardPlan, rightLength, endsRight, writerTests, writerAnswer, Writable}
+use Rattle.yard.specs.Card.{Writes, readerTests, HeadWithin, Readable, noHead, readerSays, readerVerdict, readerAnswer, judged, Reads}
 use Rattle.yard.proofs.Verdict.{verdict-done, written-accepted}
 use Rattle.yard.proofs.Tests.{items-below, inbound-within, item-le-sum}
 use Rattle.yard.proofs.Formed.{inbound-passed}
 use Rattle.yard.proofs.CardDemands.{writer-accepts-exactly, reader-accepts-exactly}
-use Rattle.yard.proofs.Card.{card-length, cardLength-head, card-longest, Fitting, headLength-some, card-head, cardPlan-card, card-right-length, card-ends-right, cardPlan-cars, cardPlan-codes, cardPlan-head, IsCard, card-cardPlan, cardPlan-codes-below}
+use Rattle.yard.proofs.Card.{card-length, cardLength-head, card-longest, Fitting, headLength-some, card-head, cardPlan-card, card-right-length}
+use Rattle.yard.proofs.Card.{card-ends-right, cardPlan-cars, cardPlan-codes, cardPlan-head, IsCard, card-cardPlan, cardPlan-codes-below}
 
 -- A plan that the writer accepts fits a card: no train is longer than the night, and every inbound number is a car's.
 writable-fitting : (p : Plan) (size : ℕ) → Writable limits p size → Fitting p
@@ -157,8 +159,10 @@ written-bytes : {p : Plan} {before : List ℕ} {w : Answer} {after : List ℕ} �
 unfolding writerAnswer
 written-bytes {p} {before} {w} {after} writes e =
     let accepted : writerAnswer limits p (length before) .number ≡ 0 = sym (ap (λ r. r .number) (writes .answer)) ∙ e in
-    let bytes : after ≡ card p ++ drop (length (card p)) before = writes .bytes ∙ written-accepted (writerAnswer limits p (length before)) (card p) before accepted in
-    let size : w .a ≡ length (card p) = ap (λ r. r .a) (writes .answer ∙ verdict-done (writerTests limits p (length before)) (says 0 (length (card p)) 0) accepted) in
+    let done = verdict-done (writerTests limits p (length before)) (says 0 (length (card p)) 0) accepted in
+    let bytes : after ≡ card p ++ drop (length (card p)) before =
+    writes .bytes ∙ written-accepted (writerAnswer limits p (length before)) (card p) before accepted in
+    let size : w .a ≡ length (card p) = ap (λ r. r .a) (writes .answer ∙ done) in
     rw (bytes, size) (take-append-seam (card p) (drop (length (card p)) before))
 
 pub written-then-read : {p : Plan} {before : List ℕ} {w : Answer} {after lengths₀ inbound₀ codes₀ : List ℕ} {r : CardAnswer} {lengths₁ inbound₁ codes₁ : List ℕ}
@@ -182,12 +186,17 @@ pub read-then-written : {bytes lengths₀ inbound₀ codes₀ : List ℕ} {r : C
     → length bytes ≤ length before
     → (w .number ≡ 0) × (take (w .a) after ≡ bytes)
 read-then-written {bytes} {lengths₀} {inbound₀} {codes₀} {before = before} reads e writes h =
-    let back = accepted-is-the-card limits bytes (length lengths₀) (length inbound₀) (length codes₀) (length before) (reads .given) (sym (reads-number reads) ∙ e) h in
+    let number = sym (reads-number reads) ∙ e in
+    let back =
+    accepted-is-the-card limits bytes (length lengths₀) (length inbound₀) (length codes₀) (length before) (reads .given) number h in
     let accepted = ap (λ r. r .number) (writes .answer) ∙ back .1 in
     (accepted, written-bytes writes accepted ∙ back .0)
 
 -- Each call leaves one answer and one content of its buffers.
-pub writer-one : {p : Plan} {before : List ℕ} {r s : Answer} {after other : List ℕ} → Writes p before r after → Writes p before s other → (r ≡ s) × (after ≡ other)
+pub writer-one : {p : Plan} {before : List ℕ} {r s : Answer} {after other : List ℕ}
+    → Writes p before r after
+    → Writes p before s other
+    → (r ≡ s) × (after ≡ other)
 writer-one x y = (x .answer ∙ sym (y .answer), x .bytes ∙ sym (y .bytes))
 
 pub reader-one : {bytes lengths₀ inbound₀ codes₀ : List ℕ} {r s : CardAnswer} {lengths₁ inbound₁ codes₁ lengths₂ inbound₂ codes₂ : List ℕ}

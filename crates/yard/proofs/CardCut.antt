@@ -112,7 +112,8 @@ module _ (a b c : ℕ) where
   reader-parts : (bytes : List ℕ)
       → let h = headOn bytes in
       readerVerdict limits bytes a b c
-      ≡ verdict (begins (leb 1 (length bytes)) (leb (headLength h) (length bytes)) h) (body h (leb (cardLength h) (length bytes)) (cardPlan bytes) (endsRight bytes))
+      ≡ verdict (begins (leb 1 (length bytes)) (leb (headLength h) (length bytes)) h)
+      (body h (leb (cardLength h) (length bytes)) (cardPlan bytes) (endsRight bytes))
   unfolding readerVerdict rightLength counts begins body
   reader-parts bytes = refl
 

@@ -135,6 +135,8 @@ module _ (L : Limits) (bytes : List ℕ) (lengthsSize inboundSize codesSize : �
       let exactly = accepted-exactly (says 0 0 0) refl (readerAsks L bytes lengthsSize inboundSize codesSize) reader-sound in
       (λ e. reader-holds .0 (exactly .0 e), λ r. exactly .1 (reader-holds .1 r))
 
-  pub reader-refuses-exactly : (k a b : ℕ) → 0 < k → (readerVerdict L bytes lengthsSize inboundSize codesSize ≡ says k a b) ↔ FirstFails k a b (readerAsks L bytes lengthsSize inboundSize codesSize)
+  pub reader-refuses-exactly : (k a b : ℕ)
+      → 0 < k
+      → (readerVerdict L bytes lengthsSize inboundSize codesSize ≡ says k a b) ↔ FirstFails k a b (readerAsks L bytes lengthsSize inboundSize codesSize)
   unfolding readerVerdict
   reader-refuses-exactly k a b pos = refused-exactly (says 0 0 0) refl k a b pos (readerAsks L bytes lengthsSize inboundSize codesSize) reader-sound

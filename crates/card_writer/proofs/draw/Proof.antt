@@ -13,7 +13,8 @@ use Rattle.bits.specs.Pens.{fresh, Draws}
 use Rattle.bits.proofs.Drawing.{draws-then, draws-whole}
 use Rattle.card_writer.specs.Writing.{planWith}
 use Rattle.format.proofs.Widths.{layout-narrow}
-use Rattle.card_writer.proofs.Writing.{headRun, run, run-size, head-size, cardBits, card-bits, drawable-bits, cardBits-room, Stands, stands-next, stands-ready}
+use Rattle.card_writer.proofs.Writing.{headRun, run, run-size, head-size, cardBits, card-bits, drawable-bits, cardBits-room, Stands}
+use Rattle.card_writer.proofs.Writing.{stands-next, stands-ready}
 use Rattle.card_writer.proofs.draw.Statement.{statement}
 use Rattle.card_writer.proofs.draw.Tie as tie
 
