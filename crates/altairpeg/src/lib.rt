@@ -2,10 +2,11 @@
 // None asks anything of its caller, and each promise is that of the call behind it, word for word. include/altairpeg.h tells the same to C.
 use yard::Answer;
 use yard::CardAnswer;
+use yard::Counts;
 use yard::PriceAnswer;
 use yard::Timings;
 ghost use mathlib.Core.Path.{_≡_};
-ghost use Rattle.yard.specs.Night.{nightOf, planOf};
+ghost use Rattle.yard.specs.Night.{planGiven, nightGiven};
 ghost use Rattle.yard.specs.Codes.{fewestTracks};
 ghost use Rattle.yard.specs.Calls.{Derives, Checks, Replays};
 ghost use Rattle.yard.specs.Card.{Reads, Writes};
@@ -16,14 +17,12 @@ ghost use Rattle.yard.specs.Price.{Prices};
 pub extern "C" fn altairpeg_derive(
     lengths: &[u16],
     inbound: &[u16],
-    tracks: usize,
-    room: usize,
-    limit: usize,
+    counts: Counts,
     codes: &mut [u16],
 ) -> Answer
-    ensures { λ r. ⌜ Derives (nightOf (now (lengths .entry)) (now (inbound .entry)) tracks room) limit (now (codes .entry)) r (now (codes .exit)) ⌝ }
+    ensures { λ r. ⌜ Derives (nightGiven (now (lengths .entry)) (now (inbound .entry)) counts) (counts .steps) (now (codes .entry)) r (now (codes .exit)) ⌝ }
 {
-    derive::derive(lengths, inbound, tracks, room, limit, codes)
+    derive::derive(lengths, inbound, counts, codes)
 }
 
 // Check: a plan offered by anyone, accepted or refused by its replay.
@@ -32,13 +31,11 @@ pub extern "C" fn altairpeg_check(
     lengths: &[u16],
     inbound: &[u16],
     codes: &[u16],
-    tracks: usize,
-    room: usize,
-    steps: usize,
+    counts: Counts,
 ) -> Answer
-    ensures { λ r. ⌜ Checks (planOf (now (lengths .entry)) (now (inbound .entry)) tracks room steps (now (codes .entry))) r ⌝ }
+    ensures { λ r. ⌜ Checks (planGiven (now (lengths .entry)) (now (inbound .entry)) (now (codes .entry)) counts) r ⌝ }
 {
-    plans::check(lengths, inbound, codes, tracks, room, steps)
+    plans::check(lengths, inbound, codes, counts)
 }
 
 // Replay: each car's track and place at a stage into the lent buffers, and the passes up to it as the answer.
@@ -47,16 +44,14 @@ pub extern "C" fn altairpeg_replay(
     lengths: &[u16],
     inbound: &[u16],
     codes: &[u16],
-    tracks: usize,
-    room: usize,
-    steps: usize,
+    counts: Counts,
     stage: usize,
     on: &mut [u16],
     at: &mut [u16],
 ) -> Answer
-    ensures { λ r. ⌜ Replays (planOf (now (lengths .entry)) (now (inbound .entry)) tracks room steps (now (codes .entry))) stage (now (on .entry)) (now (at .entry)) r (now (on .exit)) (now (at .exit)) ⌝ }
+    ensures { λ r. ⌜ Replays (planGiven (now (lengths .entry)) (now (inbound .entry)) (now (codes .entry)) counts) stage (now (on .entry)) (now (at .entry)) r (now (on .exit)) (now (at .exit)) ⌝ }
 {
-    plans::replay(lengths, inbound, codes, tracks, room, steps, stage, on, at)
+    plans::replay(lengths, inbound, codes, counts, stage, on, at)
 }
 
 // Read: a card's lengths, inbound numbers and codes into the lent buffers, and its numbers as the answer.
@@ -78,14 +73,12 @@ pub extern "C" fn altairpeg_write(
     lengths: &[u16],
     inbound: &[u16],
     codes: &[u16],
-    tracks: usize,
-    room: usize,
-    steps: usize,
+    counts: Counts,
     card: &mut [u8],
 ) -> Answer
-    ensures { λ r. ⌜ Writes (planOf (now (lengths .entry)) (now (inbound .entry)) tracks room steps (now (codes .entry))) (now (card .entry)) r (now (card .exit)) ⌝ }
+    ensures { λ r. ⌜ Writes (planGiven (now (lengths .entry)) (now (inbound .entry)) (now (codes .entry)) counts) (now (card .entry)) r (now (card .exit)) ⌝ }
 {
-    card::write(lengths, inbound, codes, tracks, room, steps, card)
+    card::write(lengths, inbound, codes, counts, card)
 }
 
 // Price: steps times pull plus passes times push, as an exact double.

@@ -2,9 +2,10 @@
 use bits::fields;
 use yard::Answer;
 use yard::CardAnswer;
+use yard::Counts;
 use yard::Head;
 ghost use mathlib.Core.Path.{_≡_};
-ghost use Rattle.yard.specs.Night.{planOf};
+ghost use Rattle.yard.specs.Night.{planOf, planGiven};
 ghost use Rattle.yard.specs.Card.{readerSays, Reads, Writes};
 
 // The reader's answer: the verdict, and the numbers of a head.
@@ -63,19 +64,17 @@ pub fn write(
     lengths: &[u16],
     inbound: &[u16],
     codes: &[u16],
-    tracks: usize,
-    room: usize,
-    steps: usize,
+    counts: Counts,
     card: &mut [u8],
 ) -> Answer
-    ensures { λ r. ⌜ Writes (planOf (now (lengths .entry)) (now (inbound .entry)) tracks room steps (now (codes .entry)))
+    ensures { λ r. ⌜ Writes (planGiven (now (lengths .entry)) (now (inbound .entry)) (now (codes .entry)) counts)
         (now (card .entry)) r (now (card .exit)) ⌝ }
 {
     let head = Head {
         edition: 1,
-        steps,
-        tracks,
-        room,
+        steps: counts.steps,
+        tracks: counts.tracks,
+        room: counts.room,
         cars: inbound.len(),
         trains: lengths.len(),
     };

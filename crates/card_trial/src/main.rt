@@ -86,15 +86,12 @@ fn compared(same: bool, name: &[u8], other: &[u8]) {
 // Writes the card of a plan into a longer buffer, and compares it with the one that was read.
 fn written(lengths: &[u16], inbound: &[u16], codes: &[u16], r: yard::CardAnswer, bytes: &[u8]) {
     let mut again = [255u8; 18];
-    let w = card::write(
-        lengths,
-        inbound,
-        codes,
-        r.tracks,
-        r.room,
-        r.steps,
-        &mut again,
-    );
+    let counts = yard::Counts {
+        tracks: r.tracks,
+        room: r.room,
+        steps: r.steps,
+    };
+    let w = card::write(lengths, inbound, codes, counts, &mut again);
     answered(w.number, w.a, w.b);
     closed(b"written");
     let behind = [255u8; 2];

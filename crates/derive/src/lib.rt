@@ -1,5 +1,6 @@
 // From a night and a step limit to the one derived plan: its steps, its passes, and the code of each car.
 use yard::Answer;
+use yard::Counts;
 ghost use mathlib.Core.Path.{_≡_};
 ghost use mathlib.Core.List.{map};
 ghost use Prim.Native.Nat.{_≤_, _<_};
@@ -7,7 +8,7 @@ ghost use lib.ListN.{length};
 ghost use Rattle.yard.specs.Codes.{F, codeNumber};
 ghost use Rattle.yard.specs.Limits.{limits};
 ghost use Rattle.yard.specs.Answers.{says, verdict};
-ghost use Rattle.yard.specs.Night.{nightOf};
+ghost use Rattle.yard.specs.Night.{nightOf, nightGiven};
 ghost use Rattle.yard.specs.Calls.{DeriveGiven, Derives};
 ghost use Rattle.yard.specs.Demands.{Within};
 ghost use Rattle.scan.specs.Front.{Under};
@@ -85,19 +86,26 @@ fn given(
 }
 
 // Derives the plan of a night within a step limit: its codes go to the lent buffer, its steps and passes into the answer.
-pub fn derive(
-    lengths: &[u16],
-    inbound: &[u16],
-    tracks: usize,
-    room: usize,
-    limit: usize,
-    codes: &mut [u16],
-) -> Answer
-    ensures { λ r. ⌜ Derives (nightOf (now (lengths .entry)) (now (inbound .entry)) tracks room) limit (now (codes .entry)) r (now (codes .exit)) ⌝ }
+pub fn derive(lengths: &[u16], inbound: &[u16], counts: Counts, codes: &mut [u16]) -> Answer
+    ensures { λ r. ⌜ Derives (nightGiven (now (lengths .entry)) (now (inbound .entry)) counts) (counts .steps) (now (codes .entry)) r (now (codes .exit)) ⌝ }
 {
-    let refusal = given(lengths, inbound, tracks, room, limit, codes.len());
+    let refusal = given(
+        lengths,
+        inbound,
+        counts.tracks,
+        counts.room,
+        counts.steps,
+        codes.len(),
+    );
     if refusal.number != 0 {
         return refusal;
     }
-    plan(lengths, inbound, tracks, room, limit, codes)
+    plan(
+        lengths,
+        inbound,
+        counts.tracks,
+        counts.room,
+        counts.steps,
+        codes,
+    )
 }

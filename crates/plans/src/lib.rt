@@ -1,12 +1,13 @@
 // Check: a plan offered by anyone is accepted exactly if its replay is good, its lists and codes being well formed.
 use sorting::early::Early;
 use yard::Answer;
+use yard::Counts;
 ghost use mathlib.Core.Path.{_≡_};
 ghost use mathlib.Core.List.{_∷_, []};
 ghost use Prim.Native.Nat.{_+_, _≤_, _<_};
 ghost use lib.ListN.{length};
 ghost use Rattle.yard.specs.Limits.{limits};
-ghost use Rattle.yard.specs.Night.{planOf};
+ghost use Rattle.yard.specs.Night.{planOf, planGiven};
 ghost use Rattle.yard.specs.Answers.{says, verdict};
 ghost use Rattle.yard.specs.Calls.{Checks, Replays};
 ghost use Rattle.yard.specs.Demands.{Listed, CodesBelow};
@@ -90,17 +91,16 @@ fn ordered(lengths: &[u16], inbound: &[u16], codes: &[u16], fullest: usize, step
 }
 
 // A plan is accepted exactly if its lists and codes are well formed and its replay pulls no car early, overfills no track and builds every train in order.
-pub fn check(
-    lengths: &[u16],
-    inbound: &[u16],
-    codes: &[u16],
-    tracks: usize,
-    room: usize,
-    steps: usize,
-) -> Answer
-    ensures { λ r. ⌜ Checks (planOf (now (lengths .entry)) (now (inbound .entry)) tracks room steps (now (codes .entry))) r ⌝ }
+pub fn check(lengths: &[u16], inbound: &[u16], codes: &[u16], counts: Counts) -> Answer
+    ensures { λ r. ⌜ Checks (planGiven (now (lengths .entry)) (now (inbound .entry)) (now (codes .entry)) counts) r ⌝ }
 {
-    let counted = intake::counts(inbound.len(), lengths.len(), tracks, room, steps);
+    let counted = intake::counts(
+        inbound.len(),
+        lengths.len(),
+        counts.tracks,
+        counts.room,
+        counts.steps,
+    );
     if counted.number != 0 {
         return counted;
     }
@@ -108,12 +108,12 @@ pub fn check(
     if listed.number != 0 {
         return listed;
     }
-    let fullest = sorting::fullest(codes, steps);
-    let replayed = sound(codes, fullest, tracks, room, steps);
+    let fullest = sorting::fullest(codes, counts.steps);
+    let replayed = sound(codes, fullest, counts.tracks, counts.room, counts.steps);
     if replayed.number != 0 {
         return replayed;
     }
-    ordered(lengths, inbound, codes, fullest, steps)
+    ordered(lengths, inbound, codes, fullest, counts.steps)
 }
 
 // 2, 3 and 4: the lists of a plan, and two buffers of these sizes.
@@ -159,21 +159,25 @@ pub fn replay(
     lengths: &[u16],
     inbound: &[u16],
     codes: &[u16],
-    tracks: usize,
-    room: usize,
-    steps: usize,
+    counts: Counts,
     stage: usize,
     on: &mut [u16],
     at: &mut [u16],
 ) -> Answer
-    ensures { λ r. ⌜ Replays (planOf (now (lengths .entry)) (now (inbound .entry)) tracks room steps (now (codes .entry))) stage (now (on .entry))
+    ensures { λ r. ⌜ Replays (planGiven (now (lengths .entry)) (now (inbound .entry)) (now (codes .entry)) counts) stage (now (on .entry))
         (now (at .entry)) r (now (on .exit)) (now (at .exit)) ⌝ }
 {
-    let counted = intake::counts(inbound.len(), lengths.len(), tracks, room, steps);
+    let counted = intake::counts(
+        inbound.len(),
+        lengths.len(),
+        counts.tracks,
+        counts.room,
+        counts.steps,
+    );
     if counted.number != 0 {
         return counted;
     }
-    let staged = intake::in_range(6, 0, steps, stage);
+    let staged = intake::in_range(6, 0, counts.steps, stage);
     if staged.number != 0 {
         return staged;
     }
@@ -181,11 +185,20 @@ pub fn replay(
     if listed.number != 0 {
         return listed;
     }
-    let fullest = sorting::fullest(codes, steps);
-    let replayed = sound(codes, fullest, tracks, room, steps);
+    let fullest = sorting::fullest(codes, counts.steps);
+    let replayed = sound(codes, fullest, counts.tracks, counts.room, counts.steps);
     if replayed.number != 0 {
         return replayed;
     }
-    stand(lengths, inbound, codes, tracks, steps, stage, on, at);
+    stand(
+        lengths,
+        inbound,
+        codes,
+        counts.tracks,
+        counts.steps,
+        stage,
+        on,
+        at,
+    );
     intake::answer(0, sorting::passes(codes, stage), 0)
 }

@@ -5,14 +5,9 @@ pub use edge::run_nightcard;
 pub use edge::run_nightplan;
 ghost use lib.ListN.{length};
 ghost use Rattle.io.specs.Counts.{Counts};
-ghost use Rattle.yard.specs.Night.{nightOf, planOf};
+ghost use Rattle.yard.specs.Night.{nightOf, planGiven};
 ghost use Rattle.lines.specs.Text.{Adds};
 ghost use Rattle.report.specs.Programs.{checkedLines, ofDerived, cardIn, outOf, ofCard, nightcardText, nightplanIn};
-
-// The most trains and cars of a night.
-const TRAINS: usize = 64;
-
-const CARS: usize = 512;
 
 // What nightcard prints for a card, and where it ends: all of it stands in a buffer of 4,096 bytes
 // (`nightcard-puts-out` in proofs/Outcome.antt).
@@ -35,9 +30,9 @@ fn put_out(card: &[u8], out: &mut [u8], anew: bool) -> usize
     ensures { λ r. ⌜ Adds (ofCard (outOf anew (length (now (out .entry)))) (now (card .entry))) (now (out .entry)) 0 r (now (out .exit)) ⌝ }
     ensures { λ r. ⌜ Counts r (now (out .exit)) ⌝ }
 {
-    let mut lengths = [0u16; TRAINS];
-    let mut inbound = [0u16; CARS];
-    let mut codes = [0u16; CARS];
+    let mut lengths = [0u16; yard::TRAINS];
+    let mut inbound = [0u16; yard::CARS];
+    let mut codes = [0u16; yard::CARS];
     let read = card::read(card, &mut lengths, &mut inbound, &mut codes);
     if read.number != 0 {
         return lines::refusal(out, read.number, read.a, read.b);
@@ -49,15 +44,12 @@ fn put_out(card: &[u8], out: &mut [u8], anew: bool) -> usize
     if anew {
         return derived(trains, order, read.tracks, read.room, out);
     }
-    plan(
-        out,
-        trains,
-        order,
-        &codes[0..n],
-        read.tracks,
-        read.room,
-        read.steps,
-    )
+    let counts = yard::Counts {
+        tracks: read.tracks,
+        room: read.room,
+        steps: read.steps,
+    };
+    plan(out, trains, order, &codes[0..n], counts)
 }
 
 // The lines of a plan: refused by check, or its counts and its trains as the replay built them, which
@@ -67,19 +59,25 @@ fn plan(
     lengths: &[u16],
     inbound: &[u16],
     codes: &[u16],
-    tracks: usize,
-    room: usize,
-    steps: usize,
+    counts: yard::Counts,
 ) -> usize
-    ensures { λ r. ⌜ Adds (checkedLines (planOf (now (lengths .entry)) (now (inbound .entry)) tracks room steps (now (codes .entry))))
+    ensures { λ r. ⌜ Adds (checkedLines (planGiven (now (lengths .entry)) (now (inbound .entry)) (now (codes .entry)) counts))
         (now (text .entry)) 0 r (now (text .exit)) ⌝ }
 {
-    let checked = plans::check(lengths, inbound, codes, tracks, room, steps);
+    let checked = plans::check(lengths, inbound, codes, counts);
     if checked.number != 0 {
         return lines::refusal(text, checked.number, checked.a, checked.b);
     }
     let n = inbound.len();
-    let end = lines::counts(text, steps, tracks, room, n, lengths.len(), checked.a);
+    let end = lines::counts(
+        text,
+        counts.steps,
+        counts.tracks,
+        counts.room,
+        n,
+        lengths.len(),
+        checked.a,
+    );
     lines::trains(text, end, lengths)
 }
 
@@ -89,13 +87,23 @@ fn derived(lengths: &[u16], inbound: &[u16], tracks: usize, room: usize, out: &m
     ensures { λ r. ⌜ Adds (ofDerived (cardIn (length (now (out .entry)))) (nightOf (now (lengths .entry)) (now (inbound .entry)) tracks room))
         (now (out .entry)) 0 r (now (out .exit)) ⌝ }
 {
-    let mut codes = [0u16; CARS];
-    let found = derive::derive(lengths, inbound, tracks, room, 8, &mut codes);
+    let mut codes = [0u16; yard::CARS];
+    let asked = yard::Counts {
+        tracks,
+        room,
+        steps: yard::STEPS,
+    };
+    let found = derive::derive(lengths, inbound, asked, &mut codes);
     if found.number != 0 {
         return lines::refusal(out, found.number, found.a, found.b);
     }
     let n = inbound.len();
-    let drawn = card::write(lengths, inbound, &codes[0..n], tracks, room, found.a, out);
+    let counts = yard::Counts {
+        tracks,
+        room,
+        steps: found.a,
+    };
+    let drawn = card::write(lengths, inbound, &codes[0..n], counts, out);
     if drawn.number != 0 {
         return lines::refusal(out, drawn.number, drawn.a, drawn.b);
     }

@@ -43,7 +43,12 @@ fn trial(
     requires { ⌜ shown ≤ 512 ⌝ }
 {
     let mut codes = [77u16; 512];
-    let r = derive::derive(lengths, inbound, tracks, room, limit, &mut codes);
+    let counts = yard::Counts {
+        tracks,
+        room,
+        steps: limit,
+    };
+    let r = derive::derive(lengths, inbound, counts, &mut codes);
     answered(r);
     io::write_all(1, b"- ");
     listed(&codes[0..shown]);
@@ -91,7 +96,12 @@ fn checked(
     tracks: usize,
     steps: usize,
 ) {
-    answered(plans::check(lengths, inbound, codes, tracks, 512, steps));
+    let counts = yard::Counts {
+        tracks,
+        room: yard::ROOM,
+        steps,
+    };
+    answered(plans::check(lengths, inbound, codes, counts));
     named(name);
 }
 
@@ -99,13 +109,16 @@ fn checked(
 fn staged(name: &[u8], codes: &[u16], stage: usize) {
     let mut on = [77u16; 8];
     let mut at = [77u16; 8];
+    let counts = yard::Counts {
+        tracks: 2,
+        room: yard::ROOM,
+        steps: 2,
+    };
     answered(plans::replay(
         &[6u16],
         &[3u16, 6, 1, 5, 2, 4],
         codes,
-        2,
-        512,
-        2,
+        counts,
         stage,
         &mut on,
         &mut at,

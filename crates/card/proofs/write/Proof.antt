@@ -9,7 +9,7 @@ use Rattle.card.proofs.write.Tie as tie
 
 plan : tie.Start → Plan
 plan c =
-    planOf (now (c .args .lengths)) (now (c .args .inbound)) (c .args .tracks) (c .args .room) (c .args .steps) (now (c .args .codes))
+    planOf (now (c .args .lengths)) (now (c .args .inbound)) (c .args .counts .tracks) (c .args .counts .room) (c .args .counts .steps) (now (c .args .codes))
 
 draw-requires : tie.Need-draw-requires
 unfolding plan
