@@ -30,8 +30,8 @@ pub fn read(card: &[u8], lengths: &mut [u16], inbound: &mut [u16], codes: &mut [
         r (now (lengths .exit)) (now (inbound .exit)) (now (codes .exit)) ⌝ }
 {
     let head = card_reader::head(card);
-    let mut lengths_on = [0u16; 64];
-    let mut inbound_on = [0u16; 512];
+    let mut lengths_on = [0u16; yard::TRAINS];
+    let mut inbound_on = [0u16; yard::CARS];
     let verdict = card_reader::verdict(
         card,
         head,
