@@ -2,7 +2,7 @@
 use mathlib.Core.Path.{_≡_, refl, sym, ap, ap₂, _∙_}
 use mathlib.Core.Logic.{_⊎_, inl, inr}
 use mathlib.Core.Bool.{Bool, true, false}
-use mathlib.Core.List.{List, [], _∷_}
+use mathlib.Core.List.{List, [], _∷_, _++_}
 use Prim.Native.Nat.{ℕ, _+_, _≤_, _<_}
 use native.Mathlib.Nat.{le-refl}
 use native.Mathlib.Omega.{arith}
@@ -14,44 +14,44 @@ use Rattle.yard.specs.Limits.{limits}
 use Rattle.yard.specs.Night.{Night}
 use Rattle.yard.specs.Replay.{passes, pullSize, firstOverfull}
 use Rattle.yard.specs.Derived.{stepsNeeded, derivedCodes, derivedPlan}
-use Rattle.yard.specs.Answers.{says, test, verdict, onto, written, listTest, limitTest, roomTest}
+use Rattle.yard.specs.Answers.{says, test, verdict, written, listTest, limitTest, roomTest}
 use Rattle.yard.specs.Calls.{nightCounts, nightTests, deriveAnswer, DeriveGiven, Derives}
 use Rattle.yard.specs.Demands.{Listed}
 use Rattle.yard.proofs.general.Numbers.{le-or-lt}
 use Rattle.yard.proofs.general.First.{first-same}
-use Rattle.yard.proofs.calls.Verdict.{Passed, passed-append, verdict-append, verdict-nested, verdict-passes, stops, goes-on, stops-all, goes-on-all}
-use Rattle.yard.proofs.calls.Verdict.{written-refused}
+use Rattle.yard.proofs.calls.Verdict.{Passed, passed-append, verdict-append, verdict-nested, verdict-passes, stops-all, goes-on-all, written-refused}
 use Rattle.yard.proofs.calls.Tests.{counts-passed, list-passed}
 use Rattle.yard.proofs.yards.Formed.{lists-passed}
 use Rattle.yard.proofs.yards.DerivedPlan.{derived-length, derived-sorts}
 use Rattle.yard.proofs.yards.PlanYard.{passes-codes, pullSize-codes}
 use Rattle.intake.proofs.Tests.{last-test}
-use Rattle.sorting.specs.Closed.{fullTest}
 use Rattle.sorting.specs.Sums.{pullOf, setBelow, above, firstAbove}
 use Rattle.derive.specs.Plans.{openTests, settled, Settles, planned, Planned}
 
 -- ---- the room, worked out from the codes
 
-module _ (room steps : ℕ) (derived before : List ℕ) {full : Answer} (is : full ≡ fullTest room steps derived) where
-  done-settled : Answer
-  done-settled = says 0 steps (length derived + setBelow steps derived)
-
-  pub settles-full : (full .number ≡ 0 → ⊥) → Settles room steps derived before full before
-  unfolding done-settled
-  settles-full n =
+module _ (room steps : ℕ) (derived before : List ℕ) {r : Answer} {full : ℕ} (e : full ≡ firstAbove room derived steps) where
+  pub settles-full : {cars : ℕ} → r ≡ says 6 full cars → full < steps → cars ≡ pullOf derived full → Settles room steps derived before r before
+  settles-full {cars} says-so m q =
       record {
-        answer = stops (fullTest room steps derived) [] done-settled full is n;
-        codes = sym (written-refused full derived before n);
+        answer = says-so ∙ (ap₂ (says 6) e (q ∙ ap (pullOf derived) e) ∙ refused (lt-leb steps (firstAbove room derived steps) (omega arith)));
+        codes = sym (ap (λ (a : Answer). written a derived before) says-so);
       }
+    where
+      refused : leb steps (firstAbove room derived steps) ≡ false
+          → says 6 (firstAbove room derived steps) (pullOf derived (firstAbove room derived steps)) ≡ settled room steps derived
+      refused f = rw f refl
 
-  pub settles-fits : full .number ≡ 0 → {r : Answer} {p : ℕ} {after : List ℕ} → r ≡ says 0 steps p
-      → p ≡ length derived + setBelow steps derived → after ≡ onto derived before → Settles room steps derived before r after
-  unfolding done-settled
-  settles-fits z {r} says-so q copied =
+  pub settles-fits : {p : ℕ} {after : List ℕ} → r ≡ says 0 steps p → steps ≤ full → p ≡ length derived + setBelow steps derived
+      → after ≡ derived ++ drop (length derived) before → Settles room steps derived before r after
+  settles-fits {p} {after} says-so m q copied =
       record {
-        answer = goes-on (fullTest room steps derived) [] done-settled full is r z (says-so ∙ ap (says 0 steps) q);
+        answer = says-so ∙ (ap (says 0 steps) q ∙ accepted (le-leb steps (firstAbove room derived steps) (omega arith)));
         codes = copied ∙ sym (ap (λ (a : Answer). written a derived before) says-so);
       }
+    where
+      accepted : leb steps (firstAbove room derived steps) ≡ true → says 0 steps (length derived + setBelow steps derived) ≡ settled room steps derived
+      accepted t = rw t refl
 
 -- the derived plan's room and passes are those worked out from its codes
 module _ (n : Night) (f : Listed (n .lengths) (n .inbound)) (pos : 0 < n .tracks) where

@@ -33,9 +33,9 @@ fn settle(room: usize, steps: usize, derived: &[u16], codes: &mut [u16]) -> Answ
     ensures { λ r. ⌜ Settles room steps (now (derived .entry)) (now (codes .entry)) r (now (codes .exit)) ⌝ }
 {
     let fullest = sorting::fullest(derived, steps);
-    let full = sorting::full(derived, fullest, room, steps);
-    if full.number != 0 {
-        return full;
+    let full = sorting::first_above(derived, steps, room, fullest);
+    if full < steps {
+        return intake::answer(6, full, sorting::pull(derived, full));
     }
     intake::copy(derived, derived.len(), codes);
     intake::answer(0, steps, sorting::passes(derived, steps))

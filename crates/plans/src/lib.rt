@@ -13,7 +13,7 @@ ghost use Rattle.yard.specs.Calls.{Checks, Replays};
 ghost use Rattle.yard.specs.Demands.{Listed, CodesBelow};
 ghost use Rattle.sorting.specs.Early.{earlyFound};
 ghost use Rattle.sorting.specs.Sums.{setBelow, fullestOf};
-ghost use Rattle.sorting.specs.Closed.{earlyAnswer, waitTest};
+ghost use Rattle.sorting.specs.Closed.{earlyAnswer, waitTest, fullTest};
 ghost use Rattle.plans.specs.Closed.{givenTests, soundTests};
 ghost use Rattle.plans.specs.Closed.{firstPair, pairTest, Counted, placedTests, Placeable, Placed};
 
@@ -49,6 +49,19 @@ fn kept(codes: &[u16], tracks: usize, steps: usize) -> Answer
     intake::answer(0, 0, 0)
 }
 
+// 6: no track overfilled, or else the first such step and its cars.
+fn full(codes: &[u16], fullest: usize, room: usize, steps: usize) -> Answer
+    requires { ⌜ (steps ≤ limits .steps) × (length (now codes) ≤ limits .cars) × (fullest ≡ fullestOf (now codes) steps) ⌝ }
+    ensures { λ r. ⌜ r ≡ fullTest room steps (now (codes .entry)) ⌝ }
+{
+    let step = sorting::first_above(codes, steps, room, fullest);
+    if step < steps {
+        intake::answer(6, step, sorting::pull(codes, step))
+    } else {
+        intake::answer(0, 0, 0)
+    }
+}
+
 // 7, 8 and 6: what the codes alone can break, with their fullest pull.
 fn sound(codes: &[u16], fullest: usize, tracks: usize, room: usize, steps: usize) -> Answer
     requires { ⌜ (0 < tracks) × (steps ≤ limits .steps) × (length (now codes) ≤ limits .cars) × (fullest ≡ fullestOf (now codes) steps) ⌝ }
@@ -62,7 +75,7 @@ fn sound(codes: &[u16], fullest: usize, tracks: usize, room: usize, steps: usize
     if pulled.number != 0 {
         return pulled;
     }
-    sorting::full(codes, fullest, room, steps)
+    full(codes, fullest, room, steps)
 }
 
 // The lowest car that breaks the rule with the next, or the last car where there is none.

@@ -1,7 +1,6 @@
 // What a replay does, worked out from the codes: passes, pulls and the first early pull.
 pub mod early;
 
-use yard::Answer;
 ghost use mathlib.Core.Path.{_≡_};
 ghost use Prim.Native.Nat.{_+_, _%_, _^_, max, _≤_, _<_};
 ghost use lib.Count.{ones};
@@ -9,7 +8,6 @@ ghost use lib.ListN.{length};
 ghost use Rattle.yard.specs.Limits.{limits};
 ghost use Rattle.yard.specs.Words.{tally};
 ghost use Rattle.yard.specs.Replay.{bit};
-ghost use Rattle.sorting.specs.Closed.{fullTest};
 ghost use Rattle.sorting.specs.Sums.{pullOf, setBelow, firstAbove, fullestOf};
 
 // 1 where the code names the step, else 0.
@@ -46,7 +44,7 @@ fn find_above(codes: &[u16], steps: usize, room: usize) -> usize
 }
 
 // The same, for codes whose fullest pull is known; only where it is above the room is there a step to look for.
-fn first_above(codes: &[u16], steps: usize, room: usize, fullest: usize) -> usize
+pub fn first_above(codes: &[u16], steps: usize, room: usize, fullest: usize) -> usize
     requires { ⌜ (steps ≤ limits .steps) × (length (now codes) ≤ limits .cars) × (fullest ≡ fullestOf (now codes) steps) ⌝ }
     ensures { λ r. ⌜ r ≡ firstAbove room (now (codes .entry)) steps ⌝ }
 {
@@ -73,19 +71,6 @@ pub fn fullest(codes: &[u16], steps: usize) -> usize
         most = larger(most, pull(codes, step));
     }
     most
-}
-
-// 6: no track overfilled, or else the first such step and its cars.
-pub fn full(codes: &[u16], fullest: usize, room: usize, steps: usize) -> Answer
-    requires { ⌜ (steps ≤ limits .steps) × (length (now codes) ≤ limits .cars) × (fullest ≡ fullestOf (now codes) steps) ⌝ }
-    ensures { λ r. ⌜ r ≡ fullTest room steps (now (codes .entry)) ⌝ }
-{
-    let step = first_above(codes, steps, room, fullest);
-    if step < steps {
-        intake::answer(6, step, pull(codes, step))
-    } else {
-        intake::answer(0, 0, 0)
-    }
 }
 
 // The set bits of a code.

@@ -6,10 +6,10 @@ use denote.Ref.{now}
 use native.Mathlib.Omega.{arith}
 use borrow.Author.Tests.{le-leb, lt-leb}
 use Rattle.yard.specs.Answers.{says, test}
 use Rattle.sorting.specs.Sums.{pullOf, firstAbove}
 use borrow.Author.Needs.{needs}
-use Rattle.sorting.proofs.full.Statement.{statement}
-use Rattle.sorting.proofs.full.Tie as tie
+use Rattle.plans.proofs.full.Statement.{statement}
+use Rattle.plans.proofs.full.Tie as tie
 
 first-above-requires : tie.Need-first-above-requires
 first-above-requires c κs = search needs
