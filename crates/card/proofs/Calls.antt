@@ -3,14 +3,14 @@ use Prim.Native.Nat.{ℕ, _≤_}
 use mathlib.Core.Path.{_≡_, refl, sym, ap, _∙_}
 use mathlib.Core.List.{List, _++_}
 use native.Mathlib.Omega.{arith}
-use lib.ListN.{length, take, drop, length-append}
-use lib.Seq.{take-append-seam}
+use lib.ListN.{length, take, length-append}
 use Rattle.yard.specs.declared.Answer.{Answer}
 use Rattle.yard.specs.declared.CardAnswer.{CardAnswer}
 use Rattle.yard.specs.Night.{Plan, planOf}
 use Rattle.yard.specs.Limits.{limits}
 use Rattle.yard.specs.Answers.{written}
 use Rattle.yard.specs.Card.{card, cardPlan, writerAnswer, Writes, Reads}
+use Rattle.yard.proofs.general.Fronts.{front-taken}
 use Rattle.yard.proofs.cards.Card.{cardPlan-cars, cardPlan-codes}
 use Rattle.yard.proofs.cards.CardCalls.{Told, read-told, written-then-read, read-then-written}
 
@@ -20,9 +20,6 @@ planRead r lengths inbound codes =
     planOf (take (r .trains) lengths) (take (r .cars) inbound) (r .tracks) (r .room) (r .steps) (take (r .cars) codes)
 
 -- after an acceptance that is the plan of the card
-front : (items buffer : List ℕ) (k : ℕ) (held : List ℕ) → k ≡ length items → held ≡ items ++ drop (length items) buffer → take k held ≡ items
-front items buffer k held e h = ap (λ n. take n held) e ∙ ap (take (length items)) h ∙ take-append-seam items (drop (length items) buffer)
-
 pub plan-read : {bytes l i c : List ℕ} {r : CardAnswer} {l₁ i₁ c₁ : List ℕ}
     → Reads bytes l i c r l₁ i₁ c₁
     → r .number ≡ 0
@@ -31,9 +28,9 @@ plan-read {bytes} {l} {i} {c} {r} {l₁} {i₁} {c₁} reads e =
     let p = cardPlan bytes in
     let told = read-told reads e in
     let coded : length (p .night .inbound) ≡ length (p .codes) = cardPlan-cars bytes ∙ sym (cardPlan-codes bytes) in
-    let lengths = front (p .night .lengths) l (r .trains) l₁ (ap (λ r. r .trains) (told .answer)) (told .lengths) in
-    let inbound = front (p .night .inbound) i (r .cars) i₁ (ap (λ r. r .cars) (told .answer)) (told .inbound) in
-    let codes = front (p .codes) c (r .cars) c₁ (ap (λ r. r .cars) (told .answer) ∙ coded) (told .codes) in
+    let lengths = front-taken (p .night .lengths) l (told .lengths) (sym (ap (λ r. r .trains) (told .answer))) in
+    let inbound = front-taken (p .night .inbound) i (told .inbound) (sym (ap (λ r. r .cars) (told .answer))) in
+    let codes = front-taken (p .codes) c (told .codes) (sym (ap (λ r. r .cars) (told .answer) ∙ coded)) in
     ap (λ x. planOf x (take (r .cars) i₁) (r .tracks) (r .room) (r .steps) (take (r .cars) c₁)) lengths
     ∙ ap (λ x. planOf (p .night .lengths) x (r .tracks) (r .room) (r .steps) (take (r .cars) c₁)) inbound
     ∙ ap (λ x. planOf (p .night .lengths) (p .night .inbound) (r .tracks) (r .room) (r .steps) x) codes

@@ -18,11 +18,24 @@ pub fn answer(number: usize, a: usize, b: usize) -> Answer
     Answer { number, a, b }
 }
 
-// The first of two answers, if it is a refusal, or the second.
+// The first of two answers, if it is a refusal, or the second. Field by field, since a choice between two structs in memory would
+// wait for both to be written.
 pub fn unless(first: Answer, second: Answer) -> Answer
     ensures { λ r. ⌜ r ≡ verdict (first ∷ []) second ⌝ }
 {
-    if first.number == 0 { second } else { first }
+    if first.number == 0 {
+        Answer {
+            number: second.number,
+            a: second.a,
+            b: second.b,
+        }
+    } else {
+        Answer {
+            number: first.number,
+            a: first.a,
+            b: first.b,
+        }
+    }
 }
 
 // Done where a test is passed, or else the refusal with this number and detail.

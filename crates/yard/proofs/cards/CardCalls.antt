@@ -9,6 +9,7 @@ use lib.Dec.{eqb}
 use lib.ListN.{length, take, drop}
 use lib.Seq.{take-append-seam}
 use lib.Pow.{pow-pos}
+use borrow.Author.Tests.{ne-eqb}
 use Rattle.yard.specs.declared.Answer.{Answer}
 use Rattle.yard.specs.declared.CardAnswer.{CardAnswer}
 use Rattle.yard.specs.Limits.{Limits, limits}
@@ -125,6 +126,12 @@ reader-says L bytes a b c = go (readerVerdict L bytes a b c) (eqb (readerVerdict
 
 readerAnswer-number : (L : Limits) (bytes : List ℕ) (a b c : ℕ) → readerAnswer L bytes a b c .number ≡ readerVerdict L bytes a b c .number
 readerAnswer-number L bytes a b c = ap (λ (r : Answer). r .number) (reader-says L bytes a b c)
+
+pub reader-refused : (L : Limits) (bytes : List ℕ) (a b c : ℕ)
+    → (readerVerdict L bytes a b c .number ≡ 0 → ⊥)
+    → readerAnswer L bytes a b c ≡ readerSays (readerVerdict L bytes a b c) noHead
+unfolding readerAnswer
+reader-refused L bytes a b c h = rw (ne-eqb (readerVerdict L bytes a b c .number) 0 h)
 
 readerAnswer-accepted : (L : Limits) (bytes : List ℕ) (a b c : ℕ)
     → readerVerdict L bytes a b c .number ≡ 0
