@@ -184,20 +184,20 @@ module _ (L : Limits) (p : Plan) (stage trackSize placeSize : ℕ) where
 
 -- ---- demand 3: the bill is the least there is
 
--- Room aside, and whatever the limit: for every well-formed night the derived plan builds all the trains, and no plan with fewer
--- steps does, whatever codes it gives.
+-- Room aside, and whatever the limit: for every night of at least one train and one track whose lists are well formed, the derived
+-- plan builds all the trains, and no plan with fewer steps does, whatever codes it gives.
 pub record LeastPlan (n : Night) (p : Plan) : Type 0 where
   pub same : p .night ≡ n
   pub sorts : Sorts p
   pub least : (h : ℕ) (codes : List ℕ) → Sorts (record { night = n; steps = h; codes = codes }) → p .steps ≤ h
 
-pub derived-least : (L : Limits) (n : Night) (limit : ℕ) → Given L n limit → LeastPlan n (derivedPlan n)
+pub derived-least : (n : Night) → Listed (n .lengths) (n .inbound) → 1 ≤ length (n .lengths) → 1 ≤ n .tracks → LeastPlan n (derivedPlan n)
 unfolding derivedPlan
-derived-least L n limit g =
+derived-least n lists some pos =
     record {
       same = refl;
-      sorts = derived-sorts n (g .lists) (g .counts .tracks .0);
-      least = λ h codes s. least-steps (record { night = n; steps = h; codes = codes }) (g .lists) (g .counts .tracks .0) s (g .counts .trains .0);
+      sorts = derived-sorts n lists pos;
+      least = λ h codes s. least-steps (record { night = n; steps = h; codes = codes }) lists pos s some;
     }
 
 module _ (L : Limits) (n : Night) (limit size : ℕ) where
@@ -277,10 +277,11 @@ module _ (L : Limits) (n : Night) (limit size : ℕ) where
   pub derive-least : deriveAnswer L n limit size .number ≡ 0
       → LeastPlan n (derivedPlan n) × (deriveAnswer L n limit size ≡ says 0 (derivedPlan n .steps) (yardAt (derivedPlan n) (derivedPlan n .steps) .rolled))
   unfolding deriveAnswer derivedPlan passes
-  derive-least e = (
-    derived-least L n limit (derive-accepts-exactly .0 e .given .given),
-    verdict-done (deriveTests L n limit size) derive-done e,
-  )
+  derive-least e =
+      let given = derive-accepts-exactly .0 e .given .given in (
+        derived-least n (given .lists) (given .counts .trains .0) (given .counts .tracks .0),
+        verdict-done (deriveTests L n limit size) derive-done e,
+      )
 
 -- ---- demand 3: reported passes are the cars that roll in the replay, counted one by one
 
