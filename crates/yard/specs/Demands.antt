@@ -52,7 +52,7 @@ pub record InLimits (L : Limits) (n m W C h : ℕ) : Type 0 where
   pub room : Within 1 (L .room) C
   pub steps : Within 0 (L .steps) h
 
--- the lists of a night, and the codes of a plan, are well formed
+-- the lists of a night are well formed
 pub record Listed (lengths inbound : List ℕ) : Type 0 where
   pub nonempty : NoneEmpty lengths
   pub adds : sum lengths ≡ length inbound
@@ -63,6 +63,7 @@ pub record Given (L : Limits) (n : Night) (h : ℕ) : Type 0 where
   pub counts : InLimits L (length (n .inbound)) (length (n .lengths)) (n .tracks) (n .room) h
   pub lists : Listed (n .lengths) (n .inbound)
 
+-- the codes of a plan are well formed
 pub record CodesFormed (p : Plan) : Type 0 where
   pub each : length (p .codes) ≡ length (p .night .inbound)
   pub below : CodesBelow (p .steps) (p .codes)

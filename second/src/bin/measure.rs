@@ -13,7 +13,7 @@ use std::time::{Duration, Instant};
 const SIZES: [usize; 3] = [8, 64, 512];
 /// Different nights for each size, so that no branch is learnt by heart.
 const NIGHTS: usize = 128;
-/// Each call is timed in many short rounds; the quickest counts, the others were disturbed.
+/// Each call is timed in many short rounds; the quickest counts as its time, the others were disturbed.
 const ROUNDS: usize = 60;
 const ROUND: Duration = Duration::from_millis(5);
 
@@ -90,22 +90,31 @@ fn read(answer: CardAnswer) {
     assert_eq!(black_box(answer).number, 0, "{answer:?}");
 }
 
-/// Seconds for all nights once, by the quickest round.
+/// Seconds for all nights once, by the quickest round; and how many times the idiomatic calls' time the library takes, in
+/// the middle of all pairs of neighbouring rounds.
 struct Times {
     library: f64,
     idiomatic: f64,
+    ratio: f64,
 }
 
-/// The rounds of both alternate, so that a busy machine disturbs both alike.
+/// The rounds of both alternate, so that a busy machine, or one that changes its pace, disturbs both alike.
 fn times(name: usize, works: &mut [Work]) -> Times {
     let mut best = Times {
         library: f64::INFINITY,
         idiomatic: f64::INFINITY,
+        ratio: 0.0,
     };
+    let mut ratios = Vec::new();
     for _ in 0..ROUNDS {
-        best.library = best.library.min(round::<Library>(name, works));
-        best.idiomatic = best.idiomatic.min(round::<Idiomatic>(name, works));
+        let library = round::<Library>(name, works);
+        let idiomatic = round::<Idiomatic>(name, works);
+        best.library = best.library.min(library);
+        best.idiomatic = best.idiomatic.min(idiomatic);
+        ratios.push(library / idiomatic);
     }
+    ratios.sort_by(f64::total_cmp);
+    best.ratio = ratios[ROUNDS / 2];
     best
 }
 
@@ -132,7 +141,7 @@ fn row(name: usize, cars: usize, times: &Times) -> String {
         nights / times.idiomatic,
         a_car(times.library),
         a_car(times.idiomatic),
-        times.library / times.idiomatic
+        times.ratio
     )
 }
 
@@ -143,7 +152,7 @@ fn main() {
         let works: Vec<Work> = (0..NIGHTS).map(|_| Work::any(&mut random, cars)).collect();
         by_size.push((cars, works));
     }
-    println!("{NIGHTS} nights of each size, the quickest of {ROUNDS} rounds.\n");
+    println!("{NIGHTS} nights of each size, the quickest of {ROUNDS} rounds; the ratio is the middle one of neighbouring rounds.\n");
     println!("| call | cars | library nights/s | idiomatic nights/s | library ns/car | idiomatic ns/car | library/idiomatic |");
     println!("|---|---|---|---|---|---|---|");
     let mut growth = Vec::new();
