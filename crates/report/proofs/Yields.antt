@@ -1,23 +1,21 @@
 -- What an acceptance by check or derive yields.
 use Prim.Native.Nat.{ℕ, _≤_, _<_}
-use mathlib.Core.Path.{_≡_, ap, _∙_}
-use mathlib.Core.Bool.{Bool, false}
+use mathlib.Core.Path.{_≡_, refl}
+use mathlib.Core.Logic.{inl}
 use mathlib.Core.List.{[], _∷_}
 use native.Mathlib.Nat.{le-refl, le-trans}
 use native.Mathlib.Omega.{arith}
-use lib.Dec.{leb}
-use lib.ListN.{length, take}
-use borrow.Author.Tests.{lt-leb}
+use lib.ListN.{length}
 use Rattle.yard.specs.Limits.{limits}
 use Rattle.yard.specs.Night.{Night, Plan}
 use Rattle.yard.specs.Derived.{derivedPlan}
-use Rattle.yard.specs.Answers.{says, listTest}
-use Rattle.yard.specs.Calls.{checkAnswer, deriveAnswer, GoodPlan}
-use Rattle.yard.specs.Card.{card, writerTests, writerAnswer, Writable}
+use Rattle.yard.specs.Answers.{says, lengthAsk, bufferAsk, codeAsk}
+use Rattle.yard.specs.Calls.{checkAnswer, deriveAnswer, GoodPlan, opening}
+use Rattle.yard.specs.Card.{card, writerAnswer, Writable}
 use Rattle.yard.specs.Demands.{Listed, BuildsTrains}
-use Rattle.yard.proofs.calls.Verdict.{verdict-passes, verdict-first, passed-append}
-use Rattle.yard.proofs.Demands.{check-accepts-exactly, derive-accepts-exactly, derive-least}
-use Rattle.yard.proofs.CardDemands.{writer-accepts-exactly}
+use Rattle.yard.proofs.calls.Asks.{fails-behind}
+use Rattle.yard.proofs.Demands.{opening-holds, check-accepts-exactly, derive-accepts-exactly, derive-least}
+use Rattle.yard.proofs.CardDemands.{writer-accepts-exactly, writer-refuses-exactly}
 use Rattle.yard.proofs.cards.CardCalls.{written-longest}
 
 -- what a checked plan is known to be
@@ -73,17 +71,12 @@ module _ (n : Night) (derived : deriveAnswer limits n 8 512 .number ≡ 0) where
       written-longest (derivedPlan n) size (derived-writes size (le-refl size))
 
   pub derived-no-room : (size : ℕ) → size < length (card (derivedPlan n)) → writerAnswer limits (derivedPlan n) size ≡ says 4 6 0
-  unfolding writerAnswer
   derived-no-room size short =
       let p = derivedPlan n in
       let long = length (card p) in
-      let others = take 10 (writerTests limits p size) in
-      let done = says 0 long 0 in
-      let all = verdict-passes (writerTests limits p long) done .0 (derived-writes long (le-refl long)) .0 in
-      verdict-first others (listTest 6 (leb long size)) [] done
-      (passed-append others (listTest 6 (leb long long) ∷ []) .0 all .0)
-      (refused (lt-leb long size short))
-      ∙ ap (listTest 6) (lt-leb long size short)
-    where
-      refused : {b : Bool} → b ≡ false → listTest 6 b .number ≡ 0 → ⊥
-      refused {b} e q = omega (arith, ap (λ t. listTest 6 t .number) e, q)
+      let w = writable long (le-refl long) in
+      let own = lengthAsk 3 (length (p .codes)) (length (p .night .inbound)) ∷ codeAsk (p .steps) (p .codes) ∷ [] in
+      let held = opening-holds limits (p .night) (p .steps) [] own .1 (w .given, tt, (w .each, (w .below, tt))) in
+      writer-refuses-exactly limits p size 4 6 0 (omega arith) .1
+      (fails-behind (says 0 long 0) refl 4 6 0 (opening limits (p .night) (p .steps) [] own) (bufferAsk 6 long size ∷ []) held
+      (inl (λ fits. omega (arith, short, fits), refl, (refl, refl))))

@@ -99,6 +99,11 @@ module _ (done : Answer) (accepts : done .number ≡ 0) where
     λ f. inr (f .0 .0, fails-past k a b xs ys (u .1) .1 (f .0 .1, f .1)),
   )
 
+  -- what fails behind asks that hold is the first to fail
+  pub fails-behind : (k a b : ℕ) (xs ys : List Ask) → AllHold xs → FirstFails k a b ys → FirstFails k a b (xs ++ ys)
+  fails-behind k a b [] ys h f = f
+  fails-behind k a b (q ∷ xs) ys h f = inr (h .0, fails-behind k a b xs ys (h .1) f)
+
   -- refused at an ask whose number no other has: those before it hold, it does not, and it tells A and B
   pub refused-at : (xs : List Ask) (q : Ask) (ys : List Ask) → 0 < q .number → Sound (xs ++ (q ∷ ys)) → Unnamed (q .number) xs → Unnamed (q .number) ys
       → (a b : ℕ) → (verdict (answers (xs ++ (q ∷ ys))) done ≡ says (q .number) a b) ↔ (AllHold xs × (q .asked → ⊥) × q .told a b)
