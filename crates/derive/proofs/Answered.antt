@@ -118,16 +118,20 @@ module _ (n : Night) (f : Listed (n .lengths) (n .inbound)) (pos : 0 < n .tracks
 -- ---- derive
 
 -- the tests 1 to 4: a count is refused, or else the lists and the buffer answer
+-- what is asked behind the counts
+abbrev behind-counts : Night → ℕ → List Answer
+behind-counts n size = nightTests n ++ (listTest 3 (leb (length (n .inbound)) size) ∷ [])
+
 module _ (n : Night) (limit size : ℕ) {counted : Answer} (is : counted ≡ verdict (nightCounts limits n limit) (says 0 0 0)) where
   pub given-counts : (counted .number ≡ 0 → ⊥) → counted ≡ verdict (openTests n limit size) (says 0 0 0)
-  given-counts h = stops-all (nightCounts limits n limit) (drop 5 (openTests n limit size)) (says 0 0 0) counted is h
+  given-counts h = stops-all (nightCounts limits n limit) (behind-counts n size) (says 0 0 0) counted is h
 
   pub given-lists :
       {r : Answer} → counted .number ≡ 0 → r ≡ verdict (verdict (nightTests n) (says 0 0 0) ∷ []) (listTest 3 (leb (length (n .inbound)) size)) →
       r ≡ verdict (openTests n limit size) (says 0 0 0)
   given-lists {r} z e =
       let buffer : Answer = listTest 3 (leb (length (n .inbound)) size) in
-      goes-on-all (nightCounts limits n limit) (drop 5 (openTests n limit size)) (says 0 0 0) counted is r z
+      goes-on-all (nightCounts limits n limit) (behind-counts n size) (says 0 0 0) counted is r z
       (e ∙
       (verdict-nested (nightTests n) buffer ∙
       sym (verdict-append (nightTests n) (buffer ∷ []) (says 0 0 0) ∙ ap (verdict (nightTests n)) (last-test (leb (length (n .inbound)) size) 4 3 0 refl))))
@@ -136,7 +140,7 @@ module _ (n : Night) (limit size : ℕ) {counted : Answer} (is : counted ≡ ver
 module _ (n : Night) (limit : ℕ) (before : List ℕ) {given : Answer} (is : given ≡ verdict (openTests n limit (length before)) (says 0 0 0)) where
   pub given-passed : given .number ≡ 0 → DeriveGiven limits n limit (length before)
   given-passed z =
-      let counted = passed-append (nightCounts limits n limit) (drop 5 (openTests n limit (length before))) .0 all in
+      let counted = passed-append (nightCounts limits n limit) (behind-counts n (length before)) .0 all in
       let lists = passed-append (nightTests n) (listTest 3 fits ∷ []) .0 (counted .1) in
       record {
         given = record {

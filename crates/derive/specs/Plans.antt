@@ -2,20 +2,20 @@
 use Prim.Native.Nat.{ℕ, _+_}
 use mathlib.Core.Path.{_≡_}
 use mathlib.Core.List.{List, [], _∷_}
-use lib.ListN.{length, take}
+use lib.ListN.{length}
 use Rattle.yard.specs.declared.Answer.{Answer}
 use Rattle.yard.specs.Limits.{limits}
 use Rattle.yard.specs.Night.{Night}
 use Rattle.yard.specs.Replay.{passes}
 use Rattle.yard.specs.Derived.{stepsNeeded, derivedCodes, derivedPlan}
-use Rattle.yard.specs.Answers.{says, verdict, written, limitTest, roomTest}
-use Rattle.yard.specs.Calls.{deriveTests}
+use Rattle.yard.specs.Answers.{says, verdict, written, answers, bufferAsk, limitTest, roomTest}
+use Rattle.yard.specs.Calls.{opening}
 use Rattle.sorting.specs.Sums.{setBelow}
 use Rattle.sorting.specs.Closed.{fullTest}
 
--- the tests 1 to 4
+-- the tests 1 to 4: those with which every call begins, and the buffer
 abbrev pub openTests : Night → ℕ → ℕ → List Answer
-openTests n limit size = take 9 (deriveTests limits n limit size)
+openTests n limit size = answers (opening limits n limit [] (bufferAsk 3 (length (n .inbound)) size ∷ []))
 
 -- 6, or else the steps and the passes, worked out from the codes
 abbrev pub settled : ℕ → ℕ → List ℕ → Answer
