@@ -13,11 +13,10 @@ use Rattle.yard.specs.declared.Head.{Head}
 use Rattle.yard.specs.Limits.{limits}
 use Rattle.yard.specs.Night.{sum}
 use Rattle.yard.specs.Answers.{says, test, verdict, written}
-use Rattle.yard.specs.Calls.{countTests}
 use Rattle.yard.specs.Bits.{Bytes, unpacked, bitsOf}
 use Rattle.yard.specs.Card.{layout, headWidths, listWidths, cardLength, headOn, listsOn, cardPlan, rightLength, endsRight, noHead, readerSays}
 use Rattle.yard.specs.Card.{readerVerdict, readerAnswer, judged, HeadWithin, Reads}
-use Rattle.yard.proofs.calls.Verdict.{passed-append, verdict-append, verdict-passes, verdict-nested, stops-all, goes-on-all, written-accepted, written-refused}
+use Rattle.yard.proofs.calls.Verdict.{verdict-append, verdict-passes, verdict-nested, stops-all, goes-on-all, written-accepted, written-refused}
 use Rattle.yard.proofs.calls.Tests.{counts-passed}
 use Rattle.yard.proofs.cards.Bits.{sum-replicate, unpacked-append}
 use Rattle.yard.proofs.cards.Card.{cardPlan-trains, cardPlan-cars, cardPlan-codes}
@@ -128,9 +127,10 @@ module _ (bytes : List ℕ) (a b c : ℕ) {r : Answer} (head : r ≡ verdict (he
 -- a head that passes is within the limits
 pub head-bounded : (size : ℕ) (h : Head) → verdict (headTests size h) (says 0 0 0) .number ≡ 0 → Bounded h
 head-bounded size h e =
-    let counts = countTests limits (h .cars) (h .trains) (h .tracks) (h .room) (h .steps) in
-    let parts = passed-append (take 3 (headTests size h)) counts .0 (verdict-passes (headTests size h) (says 0 0 0) .0 e .0) in
-    within-bounded {h = h} (counts-passed limits (h .cars) (h .trains) (h .tracks) (h .room) (h .steps) .0 (parts .1))
+    let (some, more) = verdict-passes (headTests size h) (says 0 0 0) .0 e .0 in
+    let (edition, more) = more in
+    let (whole, counts) = more in
+    within-bounded {h = h} (counts-passed limits (h .cars) (h .trains) (h .tracks) (h .room) (h .steps) .0 counts)
 
 -- buffers that have room for the lists of a head within the limits
 pub record Roomy (h : Head) (l i c : List ℕ) : Type 0 where

@@ -1,15 +1,13 @@
 -- The lists on a card with a given head, and the reader's tests in the parts in which it makes them.
 use Prim.Native.Nat.{ℕ}
 use mathlib.Core.Path.{_≡_}
-use mathlib.Core.List.{List, [], _∷_}
-use lib.Dec.{leb, eqb}
+use mathlib.Core.List.{List}
 use lib.ListN.{take}
 use Rattle.yard.specs.declared.Answer.{Answer}
 use Rattle.yard.specs.declared.Head.{Head}
 use Rattle.yard.specs.Limits.{limits}
-use Rattle.yard.specs.Answers.{says, test, listTest}
-use Rattle.yard.specs.Calls.{countTests}
-use Rattle.yard.specs.Card.{layout, headLength, cardLength}
+use Rattle.yard.specs.Answers.{answers}
+use Rattle.yard.specs.Card.{layout, headAsks, sizeAsks}
 use Rattle.intake.specs.Tests.{listTests}
 use Rattle.bits.specs.Fields.{fieldsAt}
 use Rattle.format.specs.Format.{placesOf}
@@ -25,20 +23,11 @@ codesOn bytes h = fieldsAt bytes (placesOf h .codes) (h .steps) (h .cars)
 
 -- before the lists: 10 for an empty card, 11, 10 for less than a head, and 1
 abbrev pub headTests : ℕ → Head → List Answer
-headTests size h =
-    test (leb 1 size) (says 10 1 0) ∷
-    test (eqb (h .edition) 1) (says 11 (h .edition) 0) ∷
-    test (leb (headLength h) size) (says 10 (headLength h) 0) ∷
-    countTests limits (h .cars) (h .trains) (h .tracks) (h .room) (h .steps)
+headTests size h = answers (headAsks limits size h)
 
 -- the sizes: 10 for a card shorter than the whole, and 4 for the three buffers
 abbrev pub sizeTests : ℕ → Head → ℕ → ℕ → ℕ → List Answer
-sizeTests size h lengths inbound codes =
-    test (leb (cardLength h) size) (says 10 (cardLength h) 0) ∷
-    listTest 1 (leb (h .trains) lengths) ∷
-    listTest 2 (leb (h .cars) inbound) ∷
-    listTest 3 (leb (h .cars) codes) ∷
-    []
+sizeTests size h lengths inbound codes = answers (sizeAsks size h lengths inbound codes)
 
 -- 2 and 3 for the lists that the card has
 abbrev pub nightTestsOn : List ℕ → Head → List Answer

@@ -13,7 +13,7 @@ use Rattle.yard.specs.Night.{Night, Plan}
 use Rattle.yard.specs.Answers.{says, Ask, AllHold, FirstFails}
 use Rattle.yard.specs.Calls.{listAsks}
 use Rattle.yard.specs.Card.{card, headLength, headOn, cardPlan, rightLength, endsRight, writerOwn, writerAsks, writerAnswer, Writable}
-use Rattle.yard.specs.Card.{bytesAsk, editionAsk, endAsk, headCounts, sizeAsks, readerAsks, readerVerdict, Readable}
+use Rattle.yard.specs.Card.{cardLength, bytesAsk, editionAsk, endAsk, headAsks, sizeAsks, readerAsks, readerVerdict, Readable}
 use Rattle.yard.proofs.calls.Asks.{Right, Sound, holds-append, sound-append, accepted-exactly, refused-exactly, plain-right}
 use Rattle.yard.proofs.calls.Rights.{at-most-right, length-right, buffer-right, code-right}
 use Rattle.yard.proofs.Demands.{counts-sound, counts-hold, lists-sound, lists-hold, opening-sound, opening-holds}
@@ -52,8 +52,8 @@ module _ (L : Limits) (p : Plan) (size : ℕ) where
 
 -- ---- the reader
 
-bytes-right : (needed : ℕ) (bytes : List ℕ) → Right (bytesAsk needed bytes)
-bytes-right needed bytes = at-most-right 9 needed needed (length bytes)
+bytes-right : (needed size : ℕ) → Right (bytesAsk needed size)
+bytes-right needed size = at-most-right 9 needed needed size
 
 edition-right : (edition : ℕ) → Right (editionAsk edition)
 edition-right edition = plain-right 10 (eqb edition 1) edition (edition ≡ 1) (eqb-true edition 1, eq-eqb edition 1)
@@ -61,8 +61,20 @@ edition-right edition = plain-right 10 (eqb edition 1) edition (edition ≡ 1) (
 end-right : (bytes : List ℕ) → Right (endAsk bytes)
 end-right bytes = plain-right 11 (endsRight bytes) (rightLength bytes) (endsRight bytes ≡ true) (λ e. e, λ e. e)
 
-head-sound : (L : Limits) (h : Head) → Sound (headCounts L h)
-head-sound L h = counts-sound L (h .cars) (h .trains) (h .tracks) (h .room) (h .steps)
+head-sound : (L : Limits) (size : ℕ) (h : Head) → Sound (headAsks L size h)
+head-sound L size h = (
+  bytes-right 1 size,
+  λ _. (
+    edition-right (h .edition),
+    λ _. (bytes-right (headLength h) size, λ _. counts-sound L (h .cars) (h .trains) (h .tracks) (h .room) (h .steps)),
+  ),
+)
+
+sizes-sound : (size : ℕ) (h : Head) (a b c : ℕ) → Sound (sizeAsks size h a b c)
+sizes-sound size h a b c = (
+  bytes-right (cardLength h) size,
+  λ _. (buffer-right 1 (h .trains) a, λ _. (buffer-right 2 (h .cars) b, λ _. (buffer-right 3 (h .cars) c, λ _. tt))),
+)
 
 module _ (L : Limits) (bytes : List ℕ) (lengthsSize inboundSize codesSize : ℕ) where
   abbrev h : Head
@@ -71,45 +83,38 @@ module _ (L : Limits) (bytes : List ℕ) (lengthsSize inboundSize codesSize : �
   abbrev night : Night
   night = cardPlan bytes .night
 
-  abbrev sizes : List Ask
-  sizes = sizeAsks bytes lengthsSize inboundSize codesSize
+  -- the pieces of the reader's list
+  abbrev first-asks : List Ask
+  first-asks = headAsks L (length bytes) h
 
-  last-sound : Sound (listAsks night ++ (endAsk bytes ∷ []))
-  last-sound = sound-append (listAsks night) (endAsk bytes ∷ []) (lists-sound night) (λ _. (end-right bytes, λ _. tt))
+  abbrev sizes : List Ask
+  sizes = sizeAsks (length bytes) h lengthsSize inboundSize codesSize
+
+  abbrev last-asks : List Ask
+  last-asks = listAsks night ++ (endAsk bytes ∷ [])
 
   reader-sound : Sound (readerAsks L bytes lengthsSize inboundSize codesSize)
-  reader-sound = (
-    bytes-right 1 bytes,
-    λ _. (
-      edition-right (h .edition),
-      λ _. (
-        bytes-right (headLength h) bytes,
-        λ _.
-            sound-append (headCounts L h) sizes (head-sound L h)
-            (λ _. (
-              bytes-right (rightLength bytes) bytes,
-              λ _. (
-                buffer-right 1 (h .trains) lengthsSize,
-                λ _. (buffer-right 2 (h .cars) inboundSize, λ _. (buffer-right 3 (h .cars) codesSize, λ _. last-sound)),
-              ),
-            )),
-      ),
-    ),
-  )
+  reader-sound =
+      sound-append first-asks (sizes ++ last-asks) (head-sound L (length bytes) h)
+      (λ _.
+      sound-append sizes last-asks (sizes-sound (length bytes) h lengthsSize inboundSize codesSize)
+      (λ _. sound-append (listAsks night) (endAsk bytes ∷ []) (lists-sound night) (λ _. (end-right bytes, λ _. tt))))
 
   reader-holds : AllHold (readerAsks L bytes lengthsSize inboundSize codesSize) ↔ Readable L bytes lengthsSize inboundSize codesSize
   reader-holds =
       let counted = counts-hold L (h .cars) (h .trains) (h .tracks) (h .room) (h .steps) in
-      let parted = holds-append (headCounts L h) sizes in
+      let headed = holds-append first-asks (sizes ++ last-asks) in
+      let sized = holds-append sizes last-asks in
       let listed = holds-append (listAsks night) (endAsk bytes ∷ []) in (
-        λ (some, more).
-            let (edition, more) = more in
-            let (head, more) = more in
-            let (counts, more) = parted .0 more in
-            let (whole, more) = more in
-            let (lengths, more) = more in
-            let (inbound, more) = more in
-            let (codes, more) = more in
+        λ all.
+            let (front, more) = headed .0 all in
+            let (some, front) = front in
+            let (edition, front) = front in
+            let (head, counts) = front in
+            let (middle, more) = sized .0 more in
+            let (whole, middle) = middle in
+            let (lengths, middle) = middle in
+            let (inbound, middle) = middle in
             let (lists, ends) = listed .0 more in
             record {
               some = some;
@@ -119,14 +124,14 @@ module _ (L : Limits) (bytes : List ℕ) (lengthsSize inboundSize codesSize : �
               whole = whole;
               lengths = lengths;
               inbound = inbound;
-              codes = codes;
+              codes = middle .0;
               lists = lists-hold night .0 lists;
               ends = ends .0;
             },
         λ r.
             let last = listed .1 (lists-hold night .1 (r .lists), (r .ends, tt)) in
-            let body : AllHold sizes = (r .whole, (r .lengths, (r .inbound, (r .codes, last)))) in
-            (r .some, (r .edition, (r .head, parted .1 (counted .1 (r .counts), body)))),
+            let middle : AllHold sizes = (r .whole, (r .lengths, (r .inbound, (r .codes, tt)))) in
+            headed .1 ((r .some, (r .edition, (r .head, counted .1 (r .counts)))), sized .1 (middle, last)),
       )
 
   pub reader-accepts-exactly : (readerVerdict L bytes lengthsSize inboundSize codesSize .number ≡ 0) ↔ Readable L bytes lengthsSize inboundSize codesSize

@@ -128,8 +128,8 @@ endsRight bytes =
 
 -- 10: a card too short, A the bytes needed, as far as known; 11: the edition; 12: non-zero padding, or bytes after the end, A the
 -- card's right length
-abbrev pub bytesAsk : ℕ → List ℕ → Ask
-bytesAsk needed bytes = plain 10 (leb needed (length bytes)) needed (needed ≤ length bytes)
+abbrev pub bytesAsk : ℕ → ℕ → Ask
+bytesAsk needed size = plain 10 (leb needed size) needed (needed ≤ size)
 
 abbrev pub editionAsk : ℕ → Ask
 editionAsk edition = plain 11 (eqb edition 1) edition (edition ≡ 1)
@@ -144,23 +144,25 @@ headCounts L h = countAsks L (h .cars) (h .trains) (h .tracks) (h .room) (h .ste
 abbrev pub HeadWithin : Limits → Head → Type 0
 HeadWithin L h = InLimits L (h .cars) (h .trains) (h .tracks) (h .room) (h .steps)
 
--- The reader: a card, and three lent buffers, for lengths, inbound and codes. The head of edition 1 takes up 5 bytes.
-abbrev pub sizeAsks : List ℕ → ℕ → ℕ → ℕ → List Ask
-sizeAsks bytes lengthsSize inboundSize codesSize =
-    let h = headOn bytes in
-    bytesAsk (rightLength bytes) bytes ∷
+-- what a head shows by itself: 10, 11, 10 and 1 (the head of edition 1 takes up 5 bytes); and whether the card is whole and the
+-- buffers hold its lists: 10 and 4
+abbrev pub headAsks : Limits → ℕ → Head → List Ask
+headAsks L size h = bytesAsk 1 size ∷ editionAsk (h .edition) ∷ bytesAsk (headLength h) size ∷ headCounts L h
+
+abbrev pub sizeAsks : ℕ → Head → ℕ → ℕ → ℕ → List Ask
+sizeAsks size h lengthsSize inboundSize codesSize =
+    bytesAsk (cardLength h) size ∷
     bufferAsk 1 (h .trains) lengthsSize ∷
     bufferAsk 2 (h .cars) inboundSize ∷
     bufferAsk 3 (h .cars) codesSize ∷
-    (listAsks (cardPlan bytes .night) ++ (endAsk bytes ∷ []))
+    []
 
+-- The reader: a card, and three lent buffers, for lengths, inbound and codes.
 abbrev pub readerAsks : Limits → List ℕ → ℕ → ℕ → ℕ → List Ask
 readerAsks L bytes lengthsSize inboundSize codesSize =
-    let h = headOn bytes in
-    bytesAsk 1 bytes ∷
-    editionAsk (h .edition) ∷
-    bytesAsk (headLength h) bytes ∷
-    (headCounts L h ++ sizeAsks bytes lengthsSize inboundSize codesSize)
+    headAsks L (length bytes) (headOn bytes) ++
+    (sizeAsks (length bytes) (headOn bytes) lengthsSize inboundSize codesSize ++
+    (listAsks (cardPlan bytes .night) ++ (endAsk bytes ∷ [])))
 
 abbrev pub readerTests : Limits → List ℕ → ℕ → ℕ → ℕ → List Answer
 readerTests L bytes lengthsSize inboundSize codesSize = answers (readerAsks L bytes lengthsSize inboundSize codesSize)
@@ -171,7 +173,7 @@ pub record Readable (L : Limits) (bytes : List ℕ) (lengthsSize inboundSize cod
   pub edition : headOn bytes .edition ≡ 1
   pub head : headLength (headOn bytes) ≤ length bytes
   pub counts : HeadWithin L (headOn bytes)
-  pub whole : rightLength bytes ≤ length bytes
+  pub whole : cardLength (headOn bytes) ≤ length bytes
   pub lengths : headOn bytes .trains ≤ lengthsSize
   pub inbound : headOn bytes .cars ≤ inboundSize
   pub codes : headOn bytes .cars ≤ codesSize

@@ -55,6 +55,7 @@ pub written-read-back : (p : Plan) (size a b c : ℕ)
     → length (p .night .inbound) ≤ b
     → length (p .codes) ≤ c
     → (readerVerdict limits (card p) a b c .number ≡ 0) × (cardPlan (card p) ≡ p)
+unfolding rightLength
 written-read-back p size a b c e la lb lc =
     let w = writer-accepts-exactly limits p size .0 e in
     let f = writable-fitting p size w in
