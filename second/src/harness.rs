@@ -148,7 +148,7 @@ pub fn compare_derive<C: Calls>(
         card: Vec::new(),
     };
     count(tally, Call::Derive, wanted.answer);
-    let answer = C::derive(lent.night(night), limit, codes.part_mut());
+    let answer = C::derive(lent.night(night), limit, codes.part_mut()).into();
     let mut lists = lent.items();
     lists.push(codes.whole);
     let got = Outcome {
@@ -173,7 +173,7 @@ pub fn compare_check<C: Calls>(
     };
     count(tally, Call::Check, wanted.answer);
     let got = Outcome {
-        answer: C::check(lent.plan(plan)),
+        answer: C::check(lent.plan(plan)).into(),
         lists: lent.items(),
         card: Vec::new(),
     };
@@ -210,7 +210,7 @@ pub fn compare_replay<C: Calls>(
         card: Vec::new(),
     };
     count(tally, Call::Replay, wanted.answer);
-    let answer = C::replay(lent.plan(plan), stage, on.part_mut(), at.part_mut());
+    let answer = C::replay(lent.plan(plan), stage, on.part_mut(), at.part_mut()).into();
     let mut lists = lent.items();
     lists.extend([on.whole, at.whole]);
     let got = Outcome {
@@ -239,7 +239,7 @@ pub fn compare_write<C: Calls>(
     };
     count(tally, Call::Write, wanted.answer);
     let got = Outcome {
-        answer: C::write(lent.plan(plan), card.part_mut()),
+        answer: C::write(lent.plan(plan), card.part_mut()).into(),
         lists: lent.items(),
         card: card.whole,
     };
@@ -278,7 +278,8 @@ pub fn compare_read<C: Calls>(
         lengths.part_mut(),
         inbound.part_mut(),
         codes.part_mut(),
-    );
+    )
+    .into();
     let got = Outcome {
         answer,
         lists: vec![lengths.whole, inbound.whole, codes.whole],

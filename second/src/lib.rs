@@ -37,14 +37,21 @@ pub struct Plan<'a> {
 }
 
 /// The calls as the library offers them, so that one harness drives every implementation.
+/// Each answers in its own types, so that what is measured is the call and not a copy of its answer.
 pub trait Calls {
     const NAME: &'static str;
-    fn derive(night: Night, limit: usize, codes: &mut [u16]) -> Answer;
-    fn check(plan: Plan) -> Answer;
-    fn replay(plan: Plan, stage: usize, on: &mut [u16], at: &mut [u16]) -> Answer;
-    fn read(card: &[u8], lengths: &mut [u16], inbound: &mut [u16], codes: &mut [u16])
-        -> CardAnswer;
-    fn write(plan: Plan, card: &mut [u8]) -> Answer;
+    type Told: Into<Answer>;
+    type CardTold: Into<CardAnswer>;
+    fn derive(night: Night, limit: usize, codes: &mut [u16]) -> Self::Told;
+    fn check(plan: Plan) -> Self::Told;
+    fn replay(plan: Plan, stage: usize, on: &mut [u16], at: &mut [u16]) -> Self::Told;
+    fn read(
+        card: &[u8],
+        lengths: &mut [u16],
+        inbound: &mut [u16],
+        codes: &mut [u16],
+    ) -> Self::CardTold;
+    fn write(plan: Plan, card: &mut [u8]) -> Self::Told;
     fn price(steps: usize, passes: usize, timings: Timings) -> PriceAnswer;
     fn fewest_tracks(code: u8) -> usize;
 }

@@ -7,40 +7,37 @@ pub struct Library;
 
 impl Calls for Library {
     const NAME: &'static str = "library";
+    type Told = altairpeg_sys::Answer;
+    type CardTold = altairpeg_sys::CardAnswer;
 
-    fn derive(night: Night, limit: usize, codes: &mut [u16]) -> Answer {
-        altairpeg_sys::derive(lent_night(night), limit, codes).into()
+    #[inline]
+    fn derive(night: Night, limit: usize, codes: &mut [u16]) -> altairpeg_sys::Answer {
+        altairpeg_sys::derive(lent_night(night), limit, codes)
     }
 
-    fn check(plan: Plan) -> Answer {
-        altairpeg_sys::check(lent(plan)).into()
+    #[inline]
+    fn check(plan: Plan) -> altairpeg_sys::Answer {
+        altairpeg_sys::check(lent(plan))
     }
 
-    fn replay(plan: Plan, stage: usize, on: &mut [u16], at: &mut [u16]) -> Answer {
-        altairpeg_sys::replay(lent(plan), stage, on, at).into()
+    #[inline]
+    fn replay(plan: Plan, stage: usize, on: &mut [u16], at: &mut [u16]) -> altairpeg_sys::Answer {
+        altairpeg_sys::replay(lent(plan), stage, on, at)
     }
 
+    #[inline]
     fn read(
         card: &[u8],
         lengths: &mut [u16],
         inbound: &mut [u16],
         codes: &mut [u16],
-    ) -> CardAnswer {
-        let told = altairpeg_sys::read(card, lengths, inbound, codes);
-        CardAnswer {
-            number: told.answer.number,
-            a: told.answer.a,
-            b: told.answer.b,
-            steps: told.steps,
-            tracks: told.tracks,
-            room: told.room,
-            cars: told.cars,
-            trains: told.trains,
-        }
+    ) -> altairpeg_sys::CardAnswer {
+        altairpeg_sys::read(card, lengths, inbound, codes)
     }
 
-    fn write(plan: Plan, card: &mut [u8]) -> Answer {
-        altairpeg_sys::write(lent(plan), card).into()
+    #[inline]
+    fn write(plan: Plan, card: &mut [u8]) -> altairpeg_sys::Answer {
+        altairpeg_sys::write(lent(plan), card)
     }
 
     fn price(steps: usize, passes: usize, timings: Timings) -> PriceAnswer {
@@ -59,6 +56,7 @@ impl Calls for Library {
     }
 }
 
+#[inline]
 fn lent_night(night: Night) -> altairpeg_sys::Night {
     altairpeg_sys::Night {
         lengths: night.lengths,
@@ -68,6 +66,7 @@ fn lent_night(night: Night) -> altairpeg_sys::Night {
     }
 }
 
+#[inline]
 fn lent(plan: Plan) -> altairpeg_sys::Plan {
     altairpeg_sys::Plan {
         night: lent_night(plan.night),
@@ -77,11 +76,28 @@ fn lent(plan: Plan) -> altairpeg_sys::Plan {
 }
 
 impl From<altairpeg_sys::Answer> for Answer {
+    #[inline]
     fn from(told: altairpeg_sys::Answer) -> Answer {
         Answer {
             number: told.number,
             a: told.a,
             b: told.b,
+        }
+    }
+}
+
+impl From<altairpeg_sys::CardAnswer> for CardAnswer {
+    #[inline]
+    fn from(told: altairpeg_sys::CardAnswer) -> CardAnswer {
+        CardAnswer {
+            number: told.answer.number,
+            a: told.answer.a,
+            b: told.answer.b,
+            steps: told.steps,
+            tracks: told.tracks,
+            room: told.room,
+            cars: told.cars,
+            trains: told.trains,
         }
     }
 }

@@ -6,15 +6,15 @@ ghost use Rattle.yard.specs.Demands.{Listed};
 ghost use Rattle.breaks.specs.Numbers.{Train, Numbers};
 
 // Writes the breaks before each car of the train behind the first cars and up to an end, and answers the breaks in it.
-fn train(places: &[u16], before: usize, end: usize, into: &mut [u16]) -> u16
+fn train(places: &[u16], before: usize, end: usize, into: &mut [u16]) -> usize
     requires { ⌜ (before < end) × (end ≤ limits .cars) × (end ≤ length (now places)) × (end ≤ length (now into)) ⌝ }
     ensures { λ r. ⌜ Train (now (places .entry)) before end (now (into .entry)) r (now (into .exit)) ⌝ }
 {
     into[before] = 0;
-    let mut breaks: u16 = 0;
+    let mut breaks: usize = 0;
     for car in before + 1..end {
-        breaks += scan::tally(trains::turned(places, car));
-        into[car] = breaks;
+        breaks += scan::tally(trains::turned(places, car)) as usize;
+        into[car] = breaks as u16;
     }
     breaks
 }
@@ -26,12 +26,12 @@ pub fn numbers(lengths: &[u16], inbound: &[u16], into: &mut [u16]) -> usize
 {
     let mut by_car = [0u16; yard::CARS];
     trains::places(inbound, &mut by_car);
-    let mut most: u16 = 0;
+    let mut most: usize = 0;
     let mut before: usize = 0;
     for t in 0..lengths.len() {
         let end = trains::end(lengths, t, before);
-        most = scan::larger(most, train(&by_car, before, end, into));
+        most = scan::more(most, train(&by_car, before, end, into));
         before = end;
     }
-    most as usize
+    most
 }

@@ -39,8 +39,15 @@ pub fn tally(test: bool) -> u16
     if test { 1 } else { 0 }
 }
 
-// The larger of two numbers.
-pub fn larger(a: u16, b: u16) -> u16
+// The larger of two counts.
+pub fn more(a: usize, b: usize) -> usize
+    ensures { λ r. ⌜ r ≡ max a b ⌝ }
+{
+    if a < b { b } else { a }
+}
+
+// The larger of two items.
+fn larger(a: u16, b: u16) -> u16
     ensures { λ r. ⌜ r ≡ max a b ⌝ }
 {
     if a < b { b } else { a }

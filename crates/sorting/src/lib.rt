@@ -2,7 +2,7 @@
 pub mod early;
 
 ghost use mathlib.Core.Path.{_≡_};
-ghost use Prim.Native.Nat.{_+_, _%_, _^_, max, _≤_, _<_};
+ghost use Prim.Native.Nat.{_+_, _%_, _^_, _≤_, _<_};
 ghost use lib.Count.{ones};
 ghost use lib.ListN.{length};
 ghost use Rattle.yard.specs.Limits.{limits};
@@ -54,13 +54,6 @@ pub fn first_above(codes: &[u16], steps: usize, room: usize, fullest: usize) -> 
     steps
 }
 
-// The larger of two numbers.
-fn larger(a: usize, b: usize) -> usize
-    ensures { λ r. ⌜ r ≡ max a b ⌝ }
-{
-    if a < b { b } else { a }
-}
-
 // The cars of the fullest pull, 0 where there are no steps.
 pub fn fullest(codes: &[u16], steps: usize) -> usize
     requires { ⌜ (steps ≤ limits .steps) × (length (now codes) ≤ limits .cars) ⌝ }
@@ -68,7 +61,7 @@ pub fn fullest(codes: &[u16], steps: usize) -> usize
 {
     let mut most: usize = 0;
     for step in 0..steps {
-        most = larger(most, pull(codes, step));
+        most = scan::more(most, pull(codes, step));
     }
     most
 }

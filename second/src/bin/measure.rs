@@ -14,8 +14,8 @@ const SIZES: [usize; 3] = [8, 64, 512];
 /// Different nights for each size, so that no branch is learnt by heart.
 const NIGHTS: usize = 128;
 /// Each call is timed in many short rounds; the quickest counts as its time, the others were disturbed.
-const ROUNDS: usize = 60;
-const ROUND: Duration = Duration::from_millis(5);
+const ROUNDS: usize = 501;
+const ROUND: Duration = Duration::from_micros(200);
 
 /// One night with all that the calls read and write.
 struct Work {
@@ -66,7 +66,8 @@ const CALLS: [&str; 5] = ["derive", "check", "replay", "read", "write"];
 
 #[inline(never)]
 fn call<C: Calls>(name: usize, work: &mut Work) {
-    let plan = black_box(work.plan.lend());
+    // What is lent comes from memory that was written long ago, as it does for a caller with a night at hand.
+    let plan = black_box(&work.plan).lend();
     match name {
         0 => done(C::derive(plan.night, 8, &mut work.codes)),
         1 => done(C::check(plan)),
@@ -82,12 +83,12 @@ fn call<C: Calls>(name: usize, work: &mut Work) {
 }
 
 /// A refusal would be measured as speed, so it stops the run.
-fn done(answer: Answer) {
-    assert_eq!(black_box(answer).number, 0, "{answer:?}");
+fn done(told: impl Into<Answer>) {
+    assert_eq!(black_box(told.into().number), 0);
 }
 
-fn read(answer: CardAnswer) {
-    assert_eq!(black_box(answer).number, 0, "{answer:?}");
+fn read(told: impl Into<CardAnswer>) {
+    assert_eq!(black_box(told.into().number), 0);
 }
 
 /// Seconds for all nights once, by the quickest round; and how many times the idiomatic calls' time the library takes, in
@@ -98,7 +99,8 @@ struct Times {
     ratio: f64,
 }
 
-/// The rounds of both alternate, so that a busy machine, or one that changes its pace, disturbs both alike.
+/// The rounds of both alternate and are short, so that a machine that changes its pace disturbs both alike; each goes first
+/// as often as the other.
 fn times(name: usize, works: &mut [Work]) -> Times {
     let mut best = Times {
         library: f64::INFINITY,
@@ -106,9 +108,15 @@ fn times(name: usize, works: &mut [Work]) -> Times {
         ratio: 0.0,
     };
     let mut ratios = Vec::new();
-    for _ in 0..ROUNDS {
-        let library = round::<Library>(name, works);
-        let idiomatic = round::<Idiomatic>(name, works);
+    for turn in 0..ROUNDS {
+        let (library, idiomatic);
+        if turn % 2 == 0 {
+            library = round::<Library>(name, works);
+            idiomatic = round::<Idiomatic>(name, works);
+        } else {
+            idiomatic = round::<Idiomatic>(name, works);
+            library = round::<Library>(name, works);
+        }
         best.library = best.library.min(library);
         best.idiomatic = best.idiomatic.min(idiomatic);
         ratios.push(library / idiomatic);

@@ -60,7 +60,7 @@ loop-again c =
     let next =
     counted-next (now (at .args .lengths)) inbound (at .pre .0) (ended .before .loop-test .taken) (at-loop .loop .inv .1) (ended .end .ensures)
     places (called .train .ensures) in
-    (called .train .kept .1 .1 .1 .0 ∙ at-loop .loop .inv .0, rw (c .larger .ensures) next)
+    (called .train .kept .1 .1 .1 .0 ∙ at-loop .loop .inv .0, rw (c .more .ensures) next)
 
 same-length : tie.Need-same-length Inv-loop μ-loop
 same-length c = c .before .loop .inv .0
@@ -76,4 +76,4 @@ numbers-spec =
     tie.close
     (tie.spec
     Inv-loop μ-loop (λ c. refl) places-requires loop-holds end-requires slice-aggregate-train train-requires (λ c κs. tt)
-    (λ c. omega arith) (λ c. omega arith) loop-again (λ c. omega arith) same-length returns)
+    (λ c. omega arith) (λ c. omega arith) loop-again same-length returns)

@@ -69,5 +69,6 @@ train-spec =
     tie.close
     (tie.spec
     Inv-loop μ-loop (λ c. omega arith) (λ c. omega arith) (λ c. omega arith) loop-holds (λ c κs. omega arith) (λ c κs. tt)
-    (λ c. omega (arith, one-more c)) (λ c. omega arith) (λ c. omega (arith, size (c .before .before .before))) (λ c. omega arith)
-    (λ c. omega arith) loop-again (λ c. size (c .before)) returns)
+    (λ c. omega (arith, one-more c)) (λ c. omega (arith, one-more c)) (λ c. omega (arith, one-more c)) (λ c. omega arith)
+    (λ c. omega (arith, size (c .before .before .before))) (λ c. omega arith) (λ c. omega arith) loop-again
+    (λ c. size (c .before)) returns)

@@ -20,8 +20,8 @@ loop-holds c = (omega arith, refl)
 pull-requires : tie.Need-pull-requires Inv-loop μ-loop
 pull-requires c κs = omega arith
 
-larger-requires : tie.Need-larger-requires Inv-loop μ-loop
-larger-requires c κs = tt
+more-requires : tie.Need-more-requires Inv-loop μ-loop
+more-requires c κs = tt
 
 add-step : tie.Need-add-step Inv-loop μ-loop
 add-step c = omega arith
@@ -40,4 +40,4 @@ returns c =
     c .before .loop .inv .1 ∙ ap (λ (h : ℕ). fullestOf (now (c .before .before .before .args .codes)) h) end
 
 pub fullest-spec : {M : Type 1} → statement M
-fullest-spec = tie.close (tie.spec Inv-loop μ-loop loop-holds pull-requires larger-requires add-step loop-less loop-again returns)
+fullest-spec = tie.close (tie.spec Inv-loop μ-loop loop-holds pull-requires more-requires add-step loop-less loop-again returns)
