@@ -52,6 +52,8 @@ struct Faulty<const FAULT: usize>;
 
 impl<const FAULT: usize> Calls for Faulty<FAULT> {
     const NAME: &'static str = "faulty";
+    type Told = Answer;
+    type CardTold = CardAnswer;
 
     fn derive(night: Night, limit: usize, codes: &mut [u16]) -> Answer {
         let cars = night.inbound.len();
