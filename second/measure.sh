@@ -1,5 +1,5 @@
 #!/usr/bin/env bash
-# Runs measure with the library in four places, twice in each: where its loops fall in the machine's lines of code moves a row by a tenth.
+# Runs measure with the library in four places, twice in each: where it is placed in the program moves a row by a tenth.
 # Prints each row in the middle of the eight runs, with the least and the most of its ratio. No part of the gate.
 set -euo pipefail
 cd "$(dirname "$0")/.."

@@ -15,7 +15,7 @@ edition() { # CHECKOUT NAME
     objcopy --redefine-sym calls="$2" "$folder/$2.o"
 }
 
-# Where a loop falls in the machine's lines of code moves a row by a tenth, so each row is measured in several places.
+# Where an edition is placed in the program moves a row by a tenth, so each row is measured in eight placements of the two.
 skipped() { # BYTES
     echo '.section .note.GNU-stack; .text; .balign 64; .zero 64'
     if [ "$1" -gt 0 ]; then echo ".zero $1"; fi
