@@ -12,7 +12,7 @@ use Rattle.yard.specs.Replay.{yardAt, pullSize}
 use Rattle.yard.specs.Derived.{derivedCodes, derivedPlan}
 use Rattle.yard.specs.Demands.{Least, HasRoom, Sorts, Sortable, OverfullStep}
 use Rattle.yard.specs.Answers.{says, onto, FirstFails}
-use Rattle.yard.specs.Calls.{deriveAsks, deriveAnswer, DeriveGiven, Derives}
+use Rattle.yard.specs.Calls.{deriveAsks, deriveAnswer, DeriveGiven, Derivable, Derives}
 use Rattle.yard.proofs.general.Fronts.{front-taken, front-left}
 use Rattle.yard.proofs.calls.Verdict.{written-accepted, written-refused}
 use Rattle.yard.proofs.Demands.{LeastPlan, derive-accepts-exactly, derive-refuses-exactly}
@@ -38,12 +38,18 @@ module _ (n : Night) (limit : ℕ) (before : List ℕ) (r : Answer) (after : Lis
   same-number : r .number ≡ deriveAnswer limits n limit (length before) .number
   same-number = ap (λ (a : Answer). a .number) (promise .answer)
 
+  -- it accepts exactly if all that it asks holds
+  pub call-accepts : (r .number ≡ 0) ↔ Derivable limits n limit (length before)
+  call-accepts =
+      let exactly = derive-accepts-exactly limits n limit (length before) in
+      (λ z. exactly .0 (sym same-number ∙ z), λ derivable. same-number ∙ exactly .1 derivable)
+
   pub call-tells : r .number ≡ 0 → Told n before r after
   unfolding derivedPlan
   call-tells z =
       record {
         sorts = subst Sorts (sym plan) (least .sorts);
-        room = subst HasRoom (sym plan) (derive-accepts-exactly limits n limit (length before) .0 accepted .room);
+        room = subst HasRoom (sym plan) (call-accepts .0 z .room);
         least = λ h codes s. subst (λ (k : ℕ). k ≤ h) (sym steps) (least .least h codes s);
         passes = ap (λ (a : Answer). a .b) answered ∙ ap₂ (λ (p : Plan) (s : ℕ). yardAt p s .rolled) (sym plan) (sym steps);
         rest = front-left (derivedCodes n) before written size;
