@@ -7,7 +7,7 @@ ghost use Prim.Native.Nat.{_^_, _≤_};
 ghost use lib.Dec.{leb};
 ghost use lib.ListN.{length, take, drop};
 ghost use Rattle.yard.specs.Limits.{limits};
-ghost use Rattle.yard.specs.Answers.{says, test, verdict, countTest, trainTest, sumTest, inboundTest, listTest, codeTest};
+ghost use Rattle.yard.specs.Answers.{says, test, verdict, countTest, trainTest, sumTest, firstListing, inboundTest, listTest, codeTest};
 ghost use Rattle.yard.specs.Calls.{countTests};
 ghost use Rattle.intake.specs.Tests.{listTests};
 
@@ -80,7 +80,7 @@ pub fn counts(cars: usize, trains: usize, tracks: usize, room: usize, steps: usi
 pub fn trains(lengths: &[u16]) -> Answer
     ensures { λ r. ⌜ r ≡ trainTest (now (lengths .entry)) ⌝ }
 {
-    let empty = scan::first_empty(lengths);
+    let empty = scan::first_with(0, lengths);
     test(lengths.len() < empty, 2, empty)
 }
 
@@ -92,13 +92,31 @@ pub fn sum(lengths: &[u16], n: usize) -> Answer
     test(scan::total(lengths) == n, 2, 0)
 }
 
-// 3: each car once, or else the first place with a number out of range or met before.
+// The place at which the number at a bad place is first listed; 0 for a number out of range.
+fn first_listing(inbound: &[u16], place: usize) -> usize
+    requires { ⌜ (1 ≤ place) × (place ≤ length (now inbound)) ⌝ }
+    ensures { λ r. ⌜ r ≡ firstListing (now (inbound .entry)) place ⌝ }
+{
+    let car = inbound[place - 1];
+    if !within(1, car as usize, inbound.len()) {
+        return 0;
+    }
+    scan::first_with(car, inbound)
+}
+
+// 3: each car once, or else the first place with a number out of range or met before, and where that number is first listed. Only a
+// list that is refused is searched for it.
 pub fn inbound(inbound: &[u16]) -> Answer
     requires { ⌜ length (now inbound) ≤ limits .cars ⌝ }
     ensures { λ r. ⌜ r ≡ inboundTest (now (inbound .entry)) ⌝ }
 {
     let bad = marks::first_bad(inbound);
-    test(inbound.len() < bad, 3, bad)
+    if inbound.len() < bad {
+        answer(0, 0, 0)
+    } else {
+        let first = first_listing(inbound, bad);
+        answer(3, bad, first)
+    }
 }
 
 // 4: a list or a buffer of the right length, or else refused with a.

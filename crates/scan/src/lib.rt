@@ -1,4 +1,4 @@
-// One pass over a list of numbers: its sum, its largest item, and the first item that is 0 or too large.
+// One pass over a list of numbers: its sum, its largest item, and the first item that is so and so, or too large.
 ghost use mathlib.Core.Path.{_≡_};
 ghost use Prim.Native.Nat.{max, _≤_};
 ghost use lib.Dec.{leb};
@@ -6,7 +6,7 @@ ghost use lib.ListN.{length};
 ghost use Rattle.yard.specs.Limits.{limits};
 ghost use Rattle.yard.specs.Words.{tally, most, first};
 ghost use Rattle.yard.specs.Night.{sum, itemOf};
-ghost use Rattle.yard.specs.Answers.{emptyTrain};
+ghost use Rattle.yard.specs.Answers.{firstWith};
 
 // The cars of all trains together.
 pub fn total(lengths: &[u16]) -> usize
@@ -20,16 +20,16 @@ pub fn total(lengths: &[u16]) -> usize
     cars
 }
 
-// The first train of length 0, or one past the last where there is none.
-pub fn first_empty(lengths: &[u16]) -> usize
-    ensures { λ r. ⌜ r ≡ emptyTrain (now (lengths .entry)) ⌝ }
+// The first place that has a number, from 1, or one past the last where none has it.
+pub fn first_with(number: u16, items: &[u16]) -> usize
+    ensures { λ r. ⌜ r ≡ firstWith number (now (items .entry)) ⌝ }
 {
-    for t in 0..lengths.len() {
-        if lengths[t] == 0 {
-            return t + 1;
+    for k in 0..items.len() {
+        if items[k] == number {
+            return k + 1;
         }
     }
-    lengths.len() + 1
+    items.len() + 1
 }
 
 // 1 for true, 0 for false.

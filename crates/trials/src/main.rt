@@ -158,9 +158,31 @@ fn good_plan() {
     staged(b"past the end", &codes, 3);
 }
 
+// Request #101: a number met before is told with its first listing, one out of range with 0.
+fn listings() {
+    let codes = [0u16; 5];
+    checked(
+        b"101: 2 1 3 1 3",
+        &[5u16],
+        &[2u16, 1, 3, 1, 3],
+        &codes,
+        2,
+        1,
+    );
+    checked(
+        b"101: 2 1 6 6 3",
+        &[5u16],
+        &[2u16, 1, 6, 6, 3],
+        &codes,
+        2,
+        1,
+    );
+}
+
 fn main() {
     good_plan();
     wrong_plans();
+    listings();
     night_n(b"1: N", 2, 512, 8);
     night_n(b"4: N on one track", 1, 512, 8);
     night_n(b"5: N with room for 2", 2, 2, 8);

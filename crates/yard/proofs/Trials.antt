@@ -1,4 +1,5 @@
--- The thirteen trial nights marked P, together as one fact about the written meaning, computed by the checker.
+-- The thirteen trial nights marked P, together as one fact about the written meaning, computed by the checker; so are the tables
+-- and the nights of the requests.
 use mathlib.Core.Path.{_≡_, refl}
 use mathlib.Core.Bool.{true}
 use Rattle.yard.specs.Replay.{yardAt, passes, pulled, pullSize, fullestPull, early, lowestEarly, firstEarly, firstOverfull, built, inOrder}
@@ -6,7 +7,7 @@ use Rattle.yard.specs.Codes.{usable, usableCodes, codeNumber, fewestStep
 use Rattle.yard.specs.Derived.{stepsNeeded, derivedCodes, derivedPlan}
 use Rattle.yard.specs.Calls.{deriveAnswer, checkAnswer}
 use Rattle.yard.specs.Card.{layout, fields, card}
-use Rattle.yard.specs.Trials.{trials, tables, agree}
+use Rattle.yard.specs.Trials.{trials, tables, requests, agree}
 
 pub trials-agree : agree trials ≡ true
 unfolding trials deriveAnswer checkAnswer stepsNeeded derivedCodes derivedPlan usable usableCodes codeNumber fewestSteps yardAt passes
@@ -17,3 +18,8 @@ pub tables-agree : agree tables ≡ true
 unfolding tables layout card fields derivedPlan stepsNeeded derivedCodes usable usableCodes codeNumber fewestSteps fewestTracks yardAt
     pulled early lowestEarly firstEarly
 tables-agree = refl
+
+pub requests-agree : agree requests ≡ true
+unfolding requests deriveAnswer checkAnswer stepsNeeded derivedCodes derivedPlan usable usableCodes codeNumber fewestSteps yardAt passes
+    pulled pullSize fullestPull early lowestEarly firstEarly firstOverfull built inOrder
+requests-agree = refl

@@ -14,7 +14,7 @@ use Rattle.yard.specs.Night.{Night, Plan, sum, itemOf, pair, broken}
 use Rattle.yard.specs.Replay.{codeOf, pullSize, lowestEarly, firstEarly, firstOverfull, inOrder}
 use Rattle.yard.specs.Derived.{stepsNeeded}
 use Rattle.yard.specs.Demands.{Least, Within, NoneEmpty, EachOnce, CodesBelow, NeverEarly, HasRoom, BuildsTrains, Sortable, EmptyTrain}
-use Rattle.yard.specs.Demands.{WideCode, BadPlace, TakesEarly, EarlyStep, OverfullStep, BreaksRule}
+use Rattle.yard.specs.Demands.{WideCode, BadPlace, ListedAt, TakesEarly, EarlyStep, OverfullStep, BreaksRule}
 
 -- a number and its two details
 abbrev pub says : ℕ → ℕ → ℕ → Answer
@@ -64,14 +64,17 @@ abbrev pub FirstFails : ℕ → ℕ → ℕ → List Ask → Type 0
 FirstFails k a b [] = ⊥
 FirstFails k a b (q ∷ asks) = ((q .asked → ⊥) × (q .number ≡ k) × q .told a b) ⊎ (q .asked × FirstFails k a b asks)
 
--- an ask whose A is one number and nothing more; one whose A is the least such and such
+-- an ask whose A is one number and nothing more; one whose A is the least such and such, with a B that is so and so for it, or 0
 abbrev pub plain : ℕ → Bool → ℕ → Type 0 → Ask
 plain number passed a asked =
     record { number = number; passed = passed; a = a; b = 0; asked = asked; told = λ x y. (x ≡ a) × (y ≡ 0) }
 
+abbrev pub leastWith : ℕ → Bool → ℕ → ℕ → Type 0 → (ℕ → Type 0) → (ℕ → ℕ → Type 0) → Ask
+leastWith number passed a b asked P R =
+    record { number = number; passed = passed; a = a; b = b; asked = asked; told = λ x y. Least P x × R x y }
+
 abbrev pub leastOf : ℕ → Bool → ℕ → Type 0 → (ℕ → Type 0) → Ask
-leastOf number passed a asked P =
-    record { number = number; passed = passed; a = a; b = 0; asked = asked; told = λ x y. Least P x × (y ≡ 0) }
+leastOf number passed a asked P = leastWith number passed a 0 asked P (λ x y. y ≡ 0)
 
 -- 1: a count out of its range; A says which
 abbrev pub countAsk : ℕ → ℕ → ℕ → ℕ → Ask
@@ -80,9 +83,13 @@ countAsk a low high x = plain 1 (leb low x && leb x high) a (Within low high x)
 abbrev pub countTest : ℕ → ℕ → ℕ → ℕ → Answer
 countTest a low high x = answered (countAsk a low high x)
 
+-- the first place of a list that has a number, or one past the last where none has it
+abbrev pub firstWith : ℕ → List ℕ → ℕ
+firstWith x items = first (λ k. eqb (itemOf items k) x) (length items) 1
+
 -- 2: a train of length 0, A the first such train, or lengths not adding up to n
 abbrev pub emptyTrain : List ℕ → ℕ
-emptyTrain lengths = first (λ t. eqb (itemOf lengths t) 0) (length lengths) 1
+emptyTrain lengths = firstWith 0 lengths
 
 abbrev pub trainAsk : List ℕ → Ask
 trainAsk lengths =
@@ -97,18 +104,28 @@ sumAsk lengths n = plain 2 (eqb (sum lengths) n) 0 (sum lengths ≡ n)
 abbrev pub sumTest : List ℕ → ℕ → Answer
 sumTest lengths n = answered (sumAsk lengths n)
 
--- 3: inbound list not each car once, A the first place with a number out of range or met before
+-- 3: inbound list not each car once, A the first place with a number out of range or met before, B where a number met before is
+-- first listed, 0 for a number out of range
+abbrev pub inRange : List ℕ → ℕ → Bool
+inRange inbound car = leb 1 car && leb car (length inbound)
+
 abbrev pub badPlace : List ℕ → ℕ → Bool
 badPlace inbound k =
     let car = itemOf inbound k in
-    not (leb 1 car && leb car (length inbound)) || listed car (take (k - 1) inbound)
+    not (inRange inbound car) || listed car (take (k - 1) inbound)
 
 abbrev pub firstBad : List ℕ → ℕ
 firstBad inbound = first (badPlace inbound) (length inbound) 1
 
+abbrev pub firstListing : List ℕ → ℕ → ℕ
+firstListing inbound k =
+    let car = itemOf inbound k in
+    cond (inRange inbound car) (firstWith car inbound) 0
+
 abbrev pub inboundAsk : List ℕ → Ask
 inboundAsk inbound =
-    leastOf 3 (ltb (length inbound) (firstBad inbound)) (firstBad inbound) (EachOnce inbound) (BadPlace inbound)
+    let bad = firstBad inbound in
+    leastWith 3 (ltb (length inbound) bad) bad (firstListing inbound bad) (EachOnce inbound) (BadPlace inbound) (ListedAt inbound)
 
 abbrev pub inboundTest : List ℕ → Answer
 inboundTest inbound = answered (inboundAsk inbound)
@@ -133,14 +150,8 @@ limitTest needed limit = test (leb needed limit) (says 5 needed 0)
 -- 6: a track overfilled, A the first such step, B its cars
 abbrev pub roomAsk : Plan → Ask
 roomAsk p =
-    record {
-      number = 6;
-      passed = leb (p .steps) (firstOverfull p);
-      a = firstOverfull p;
-      b = pullSize p (firstOverfull p);
-      asked = HasRoom p;
-      told = λ k cars. Least (OverfullStep p) k × (cars ≡ pullSize p k);
-    }
+    let full = firstOverfull p in
+    leastWith 6 (leb (p .steps) full) full (pullSize p full) (HasRoom p) (OverfullStep p) (λ k cars. cars ≡ pullSize p k)
 
 abbrev pub roomTest : Plan → Answer
 roomTest p = answered (roomAsk p)

@@ -75,14 +75,19 @@ EmptyTrain lengths t = Within 1 (length lengths) t × (itemOf lengths t ≡ 0)
 abbrev pub WideCode : ℕ → List ℕ → ℕ → Type 0
 WideCode h codes car = Within 1 (length codes) car × (2 ^ h ≤ itemOf codes car)
 
--- a number met before, at place j; a place with a number out of range or met before
+-- the number at place k is that of a car; it was met before, at place j; a place with a number out of range or met before
+abbrev pub CarAt : List ℕ → ℕ → Type 0
+CarAt inbound k = Within 1 (length inbound) (itemOf inbound k)
+
 abbrev pub MetAt : List ℕ → ℕ → ℕ → Type 0
 MetAt inbound k j = (1 ≤ j) × (j < k) × (itemOf inbound j ≡ itemOf inbound k)
 
 abbrev pub BadPlace : List ℕ → ℕ → Type 0
-BadPlace inbound k =
-    Within 1 (length inbound) k ×
-    ((Within 1 (length inbound) (itemOf inbound k) → ⊥) ⊎ ((j : ℕ) × MetAt inbound k j))
+BadPlace inbound k = Within 1 (length inbound) k × ((CarAt inbound k → ⊥) ⊎ ((j : ℕ) × MetAt inbound k j))
+
+-- where the number at a bad place k was first listed: 0 for a number out of range, or else the first place before k that has it
+abbrev pub ListedAt : List ℕ → ℕ → ℕ → Type 0
+ListedAt inbound k j = ((CarAt inbound k → ⊥) × (j ≡ 0)) ⊎ (CarAt inbound k × Least (MetAt inbound k) j)
 
 -- step k takes a car that its code does not name; some car
 unfoldable pub TakesEarly : Plan → ℕ → ℕ → Type 0

@@ -1,4 +1,5 @@
--- The trial nights of document 01 that are marked P: what the written meaning says, beside what the document says.
+-- The trial nights of document 01 that are marked P, and nights of document 02: what the written meaning says, beside what the
+-- documents say.
 use Prim.Native.Nat.{ℕ, _+_, _-_}
 use mathlib.Core.Bool.{Bool, true, _&&_}
 use mathlib.Core.List.{List, [], _∷_, _++_, map, reverse}
@@ -76,7 +77,7 @@ trials =
     trial 10 (take 2 (derives (reversed 8 2) 8)) (0 ∷ 4 ∷ []) ∷
     trial 10 (take 2 (derives (reversed 8 3) 8)) (0 ∷ 3 ∷ []) ∷
     trial 11 (checks (plan (nightOf (1 ∷ []) (1 ∷ []) 2 512) 3 (4 ∷ []))) (8 ∷ 1 ∷ 0 ∷ []) ∷
-    trial 12 (derives (nightOf (2 ∷ []) (1 ∷ 1 ∷ []) 2 512) 8) (3 ∷ 2 ∷ 0 ∷ []) ∷
+    trial 12 (derives (nightOf (2 ∷ []) (1 ∷ 1 ∷ []) 2 512) 8) (3 ∷ 2 ∷ 1 ∷ []) ∷
     trial 13 (derives (nightN 1 512) 2) (5 ∷ 3 ∷ 0 ∷ []) ∷
     []
 
@@ -90,6 +91,17 @@ tables =
     trial 8 (map (F 8) (upFrom 0 9)) (1 ∷ 2 ∷ 4 ∷ 8 ∷ 16 ∷ 32 ∷ 64 ∷ 128 ∷ 256 ∷ []) ∷
     trial 0 (map (fewestTracks 8) (0 ∷ 4 ∷ 5 ∷ 9 ∷ 129 ∷ 128 ∷ [])) (1 ∷ 3 ∷ 2 ∷ 3 ∷ 7 ∷ 8 ∷ []) ∷
     trial 0 (card (derivedPlan (nightN 2 3))) (18 ∷ 32 ∷ 12 ∷ 6 ∷ 2 ∷ 3 ∷ 0 ∷ 96 ∷ 48 ∷ 2 ∷ 2 ∷ 128 ∷ 64 ∷ 32 ∷ 45 ∷ 128 ∷ []) ∷
+    []
+
+-- nights of the requests of document 02, by their number: a car listed twice, thrice, and a number out of range, also twice
+unfoldable pub requests : List Trial
+unfolding plan told derives checks trial
+requests =
+    trial 101 (derives (nightOf (5 ∷ []) (2 ∷ 1 ∷ 3 ∷ 1 ∷ 3 ∷ []) 2 512) 8) (3 ∷ 4 ∷ 2 ∷ []) ∷
+    trial 101 (derives (nightOf (3 ∷ []) (2 ∷ 2 ∷ 2 ∷ []) 2 512) 8) (3 ∷ 2 ∷ 1 ∷ []) ∷
+    trial 101 (derives (nightOf (3 ∷ []) (1 ∷ 4 ∷ 4 ∷ []) 2 512) 8) (3 ∷ 2 ∷ 0 ∷ []) ∷
+    trial 101 (checks (plan (nightOf (3 ∷ []) (1 ∷ 2 ∷ 2 ∷ []) 2 512) 0 (0 ∷ 0 ∷ 0 ∷ []))) (3 ∷ 3 ∷ 2 ∷ []) ∷
+    trial 101 (checks (plan (nightOf (2 ∷ []) (0 ∷ 0 ∷ []) 2 512) 0 (0 ∷ 0 ∷ []))) (3 ∷ 1 ∷ 0 ∷ []) ∷
     []
 
 -- all of them agree

@@ -3,7 +3,7 @@ use mathlib.Core.Path.{refl}
 use lib.Dec.{ltb}
 use lib.ListN.{length}
 use denote.Ref.{now}
-use Rattle.yard.specs.Answers.{firstBad}
+use Rattle.yard.specs.Answers.{firstBad, firstListing}
 use Rattle.intake.proofs.Tests.{last-test}
 use borrow.Author.Needs.{needs}
 use Rattle.intake.proofs.lists.Statement.{statement}
@@ -18,7 +18,7 @@ inbound-requires c κs = search needs
 returns : tie.Need-returns
 returns c =
     let inbound = now (c .before .before .before .before .before .before .before .args .inbound) in
-    cc (last-test (ltb (length inbound) (firstBad inbound)) 3 (firstBad inbound) 0 refl)
+    cc (last-test (ltb (length inbound) (firstBad inbound)) 3 (firstBad inbound) (firstListing inbound (firstBad inbound)) refl)
 
 pub lists-spec : {M : Type 1} → statement M
 lists-spec =

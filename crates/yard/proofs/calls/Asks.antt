@@ -10,7 +10,7 @@ use native.Mathlib.Omega.{arith}
 use Rattle.yard.specs.declared.Answer.{Answer}
 use Rattle.yard.specs.Words.{first}
 use Rattle.yard.specs.Demands.{Least}
-use Rattle.yard.specs.Answers.{says, test, verdict, Ask, answers, AllHold, FirstFails, plain, leastOf}
+use Rattle.yard.specs.Answers.{says, test, verdict, Ask, answers, AllHold, FirstFails, plain, leastWith, leastOf}
 use Rattle.yard.proofs.general.Bools.{clash}
 use Rattle.yard.proofs.general.First.{first-from, first-hit, first-least}
 use Rattle.yard.proofs.calls.Verdict.{verdict-refused}
@@ -141,11 +141,20 @@ first-is-least p n a P into outof found =
 pub plain-right : (k : ℕ) (passed : Bool) (a : ℕ) (asked : Type 0) → ((passed ≡ true) ↔ asked) → Right (plain (suc k) passed a asked)
 plain-right k passed a asked exactly = record { named = suc-ne-zero k; exactly = exactly; tells = λ e x y. (λ t. t, λ t. t) }
 
-pub least-right : (k : ℕ) (passed : Bool) (a : ℕ) (asked : Type 0) (P : ℕ → Type 0) → ((passed ≡ true) ↔ asked)
-    → (passed ≡ false → Least P a) → Right (leastOf (suc k) passed a asked P)
-least-right k passed a asked P exactly least =
+pub least-with-right : (k : ℕ) (passed : Bool) (a b : ℕ) (asked : Type 0) (P : ℕ → Type 0) (R : ℕ → ℕ → Type 0) → ((passed ≡ true) ↔ asked)
+    → (passed ≡ false → Least P a) → (passed ≡ false → (y : ℕ) → R a y ↔ (y ≡ b)) → Right (leastWith (suc k) passed a b asked P R)
+least-with-right k passed a b asked P R exactly least detail =
     record {
       named = suc-ne-zero k;
       exactly = exactly;
-      tells = λ e x y. let own = least-exactly (least e) x in (λ t. (own .0 (t .0), t .1), λ t. (own .1 (t .0), t .1));
+      tells =
+          λ e x y.
+          let own = least-exactly (least e) x in (
+            λ t. let same = own .0 (t .0) in (same, detail e y .0 (subst (λ (s : ℕ). R s y) same (t .1))),
+            λ t. (own .1 (t .0), subst (λ (s : ℕ). R s y) (sym (t .0)) (detail e y .1 (t .1))),
+          );
     }
+
+pub least-right : (k : ℕ) (passed : Bool) (a : ℕ) (asked : Type 0) (P : ℕ → Type 0) → ((passed ≡ true) ↔ asked)
+    → (passed ≡ false → Least P a) → Right (leastOf (suc k) passed a asked P)
+least-right k passed a asked P exactly least = least-with-right k passed a 0 asked P (λ x y. y ≡ 0) exactly least (λ e y. (λ z. z, λ z. z))

@@ -16,8 +16,9 @@ use Rattle.yard.specs.Night.{Night, Plan, sum, itemOf, pair, broken}
 use Rattle.yard.specs.Replay.{bit, codeOf, pulled, pullSize, early, lowestEarly, firstEarly, firstOverfull, inOrder}
 use Rattle.yard.specs.Derived.{stepsNeeded, derivedCodes, derivedPlan}
 use Rattle.yard.specs.Demands.{Least, Within, NoneEmpty, EachOnce, CodesBelow, NeverEarly, HasRoom, BuildsTrains, Listed, CodesFormed, Sortable}
-use Rattle.yard.specs.Demands.{EmptyTrain, WideCode, MetAt, BadPlace, TakesEarly, EarlyStep, OverfullStep, Ruled, BreaksRule}
-use Rattle.yard.specs.Answers.{plain, countAsk, emptyTrain, trainAsk, sumAsk, badPlace, firstBad, inboundAsk, lengthAsk, bufferAsk, limitAsk}
+use Rattle.yard.specs.Demands.{EmptyTrain, WideCode, CarAt, MetAt, BadPlace, ListedAt, TakesEarly, EarlyStep, OverfullStep, Ruled, BreaksRule}
+use Rattle.yard.specs.Answers.{plain, countAsk, emptyTrain, trainAsk, sumAsk, lengthAsk, bufferAsk, limitAsk}
+use Rattle.yard.specs.Answers.{firstWith, inRange, badPlace, firstBad, firstListing, inboundAsk}
 use Rattle.yard.specs.Answers.{roomAsk, wideCode, codeAsk, codeTest, earlyAsk, ruled, unruled, firstUnruled, orderAsk}
 use Rattle.yard.proofs.general.Bools.{split, clash, and-left, and-right, and-both, not-true, not-so}
 use Rattle.yard.proofs.general.First.{first-least, first-hit}
@@ -28,7 +29,7 @@ use Rattle.yard.proofs.yards.Plans.{InRange, range-once, pulled-came, e
 use Rattle.yard.proofs.yards.Building.{order-builds, order-ruled}
 use Rattle.yard.proofs.yards.Least.{least-steps}
 use Rattle.yard.proofs.yards.DerivedPlan.{derived-sorts}
-use Rattle.yard.proofs.calls.Asks.{Right, least-exactly, first-is-least, plain-right, least-right}
+use Rattle.yard.proofs.calls.Asks.{Right, least-exactly, first-is-least, plain-right, least-with-right, least-right}
 
 -- ---- counts and lengths
 
@@ -115,12 +116,21 @@ module _ (inbound : List ℕ) where
           let there = count-at front k (omega (arith, long, high)) in
           lt-ltb 0 (count x front) (omega (arith, there, ap (λ (y : ℕ). count y front) same))
 
+  -- what a test of range says
+  car-at : (k : ℕ) → (inRange inbound (itemOf inbound k) ≡ true) ↔ CarAt inbound k
+  car-at k =
+      let x = itemOf inbound k in
+      let n = length inbound in (
+        λ r. (leb-true 1 x (and-left (leb 1 x) (leb x n) r), leb-true x n (and-right (leb 1 x) (leb x n) r)),
+        λ v. and-both (le-leb 1 x (v .0)) (le-leb x n (v .1)),
+      )
+
   bad-exactly : (k : ℕ) → Within 1 (length inbound) k → (badPlace inbound k ≡ true) ↔ BadPlace inbound k
   bad-exactly zero w = absurd (omega (arith, w .0))
   bad-exactly (suc i) w =
-      let n = length inbound in
       let x = itemOf inbound (suc i) in
-      let range = leb 1 x && leb x n in
+      let range = inRange inbound x in
+      let car = car-at (suc i) in
       let before : suc i - 1 ≡ i = omega arith in
       let again = met i (w .1) in
       let seen : listed x (take (suc i - 1) inbound) ≡ listed (getD inbound i 0) (take i inbound) =
@@ -128,30 +138,65 @@ module _ (inbound : List ℕ) where
         λ e. (
           w,
           ⊎-elim
-              (λ out. inl (λ v. clash (and-both (le-leb 1 x (v .0)) (le-leb x n (v .1))) (not-true range out)))
+              (λ out. inl (λ v. clash (car .1 v) (not-true range out)))
               (λ twice. inr (again .0 (sym seen ∙ twice)))
               (either (not range) (listed x (take (suc i - 1) inbound)) e),
         ),
         λ h.
             ⊎-elim
-            (λ out. left-or (listed x (take (suc i - 1) inbound))
-            (ap not (not-so range (λ r. out (leb-true 1 x (and-left (leb 1 x) (leb x n) r), leb-true x n (and-right (leb 1 x) (leb x n) r))))))
+            (λ out. left-or (listed x (take (suc i - 1) inbound)) (ap not (not-so range (λ r. out (car .0 r)))))
             (λ twice. right-or (not range) (seen ∙ again .1 twice))
             (h .1),
       )
 
+  -- a number met before stands first at the first place that has it
+  first-met : (k : ℕ) → Within 1 (length inbound) k → (j : ℕ) → MetAt inbound k j → Least (MetAt inbound k) (firstWith (itemOf inbound k) inbound)
+  first-met k w j m =
+      let x = itemOf inbound k in
+      let n = length inbound in
+      let has : ℕ → Bool = λ i. eqb (itemOf inbound i) x in
+      let near : first has n 1 ≤ j = ⊎-elim (λ le. le) (λ far. omega (arith, far, m .1, w .1)) (first-least has n 1 j (m .0) (eq-eqb (itemOf inbound j) x (m .2))) in
+      let low =
+      first-is-least has n 1 (λ i. Within 1 n i × (itemOf inbound i ≡ x))
+      (λ i l h e. ((l, omega (arith, h)), eqb-true (itemOf inbound i) x e))
+      (λ i h. (h .0 .0, omega (arith, h .0 .1), eq-eqb (itemOf inbound i) x (h .1)))
+      (omega (arith, near, m .1, w .1)) in
+      record {
+        holds = (low .holds .0 .0, omega (arith, near, m .1), low .holds .1);
+        least = λ i h. low .least i ((h .0, omega (arith, h .1, w .1)), h .2);
+      }
+
+  listed-exactly : (k : ℕ) → BadPlace inbound k → (j : ℕ) → ListedAt inbound k j ↔ (j ≡ firstListing inbound k)
+  listed-exactly k bad j = ⊎-elim inside outside (split (inRange inbound (itemOf inbound k)))
+    where
+      inside : inRange inbound (itemOf inbound k) ≡ true → ListedAt inbound k j ↔ (j ≡ firstListing inbound k)
+      inside e =
+          let car = car-at k .0 e in
+          let own = least-exactly (⊎-elim (λ out. absurd (out car)) (λ met. first-met k (bad .0) (met .0) (met .1)) (bad .1)) j in
+          rw e (⊎-elim (λ out. absurd (out .0 car)) (λ at. own .0 (at .1)), λ z. inr (car, own .1 z))
+
+      outside : inRange inbound (itemOf inbound k) ≡ false → ListedAt inbound k j ↔ (j ≡ firstListing inbound k)
+      outside e =
+          let out : CarAt inbound k → ⊥ = λ car. clash (car-at k .1 car) e in
+          rw e (⊎-elim (λ none. none .1) (λ at. absurd (out (at .0))), λ z. inl (out, z))
+
 pub inbound-right : (inbound : List ℕ) → Right (inboundAsk inbound)
 inbound-right inbound =
-    least-right 2 (ltb n (firstBad inbound)) (firstBad inbound) (EachOnce inbound) (BadPlace inbound)
-    (passed-exactly (ltb n (firstBad inbound)) 2 (firstBad inbound) 0 (inbound-passed inbound))
-    (λ e.
-    first-is-least (badPlace inbound) n 1 (BadPlace inbound)
-    (λ k low high b. bad-exactly inbound k (low, omega arith) .0 b)
-    (λ k h. (h .0 .0, omega (arith, h .0 .1), bad-exactly inbound k (h .0) .1 h))
-    (found-within (badPlace inbound) n e))
+    least-with-right 2 (ltb n bad) bad (firstListing inbound bad) (EachOnce inbound) (BadPlace inbound) (ListedAt inbound)
+    (passed-exactly (ltb n bad) 2 bad (firstListing inbound bad) (inbound-passed inbound)) lowest (λ e. listed-exactly inbound bad (lowest e .holds))
   where
     n : ℕ
     n = length inbound
+
+    bad : ℕ
+    bad = firstBad inbound
+
+    lowest : ltb n bad ≡ false → Least (BadPlace inbound) bad
+    lowest e =
+        first-is-least (badPlace inbound) n 1 (BadPlace inbound)
+        (λ k low high b. bad-exactly inbound k (low, omega arith) .0 b)
+        (λ k h. (h .0 .0, omega (arith, h .0 .1), bad-exactly inbound k (h .0) .1 h))
+        (found-within (badPlace inbound) n e)
 
 -- ---- codes
 
@@ -248,16 +293,10 @@ module _ (p : Plan) (within : InRange (p .night .inbound)) where
 pub room-right : (p : Plan) → Right (roomAsk p)
 unfolding OverfullStep firstOverfull
 room-right p =
-    record {
-      named = omega arith;
-      exactly = passed-exactly (leb (p .steps) (firstOverfull p)) 5 (firstOverfull p) (pullSize p (firstOverfull p)) (room-passed p);
-      tells =
-          λ e k cars.
-          let own = least-exactly (fullest e) k in (
-            λ t. (own .0 (t .0), t .1 ∙ ap (pullSize p) (own .0 (t .0))),
-            λ t. (own .1 (t .0), t .1 ∙ ap (pullSize p) (sym (t .0))),
-          );
-    }
+    least-with-right 5 (leb (p .steps) (firstOverfull p)) (firstOverfull p) (pullSize p (firstOverfull p)) (HasRoom p) (OverfullStep p)
+    (λ k cars. cars ≡ pullSize p k)
+    (passed-exactly (leb (p .steps) (firstOverfull p)) 5 (firstOverfull p) (pullSize p (firstOverfull p)) (room-passed p))
+    fullest (λ e cars. (λ z. z, λ z. z))
   where
     full : ℕ → Bool
     full k = ltb (p .night .room) (pullSize p k)

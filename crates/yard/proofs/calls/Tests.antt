@@ -13,7 +13,7 @@ use borrow.Author.Tests.{leb-true, leb-false, le-leb, lt-leb, ltb-true, lt-ltb, 
 use Rattle.yard.specs.Limits.{Limits}
 use Rattle.yard.specs.Words.{first, listed}
 use Rattle.yard.specs.Night.{sum, itemOf}
-use Rattle.yard.specs.Answers.{says, test, countTest, listTest, sumTest, badPlace, firstBad, inboundTest, wideCode, codeTest}
+use Rattle.yard.specs.Answers.{says, test, countTest, listTest, sumTest, badPlace, firstBad, firstListing, inboundTest, wideCode, codeTest}
 use Rattle.yard.specs.Demands.{InLimits}
 use Rattle.yard.specs.Calls.{countTests}
 use Rattle.yard.proofs.general.Bools.{and-left, and-right, and-both, not-false}
@@ -97,7 +97,7 @@ neither false c e = refl
 pub inbound-within : (inbound : List ℕ) → inboundTest inbound .number ≡ 0 → Below (suc (length inbound)) inbound
 inbound-within inbound e =
     let n = length inbound in
-    let none = none-passed (badPlace inbound) n 2 (firstBad inbound) 0 .0 e in
+    let none = none-passed (badPlace inbound) n 2 (firstBad inbound) (firstListing inbound (firstBad inbound)) .0 e in
     items-below inbound (omega arith)
     (λ j l m.
     let car = itemOf inbound j in

@@ -12,7 +12,7 @@ use lib.Seq.{take-suc, take-length, drop-cons}
 use borrow.Author.Tests.{le-leb, leb-true, ltb-false, le-ltb, eqb-true, eq-eqb, ne-eqb, eqb-false}
 use Rattle.yard.specs.Words.{tally, count, listed, place, upFrom}
 use Rattle.yard.specs.Night.{Night, cars, itemOf}
-use Rattle.yard.specs.Answers.{trainTest, emptyTrain, sumTest, badPlace, firstBad, inboundTest}
+use Rattle.yard.specs.Answers.{trainTest, emptyTrain, sumTest, badPlace, firstBad, firstListing, inboundTest}
 use Rattle.yard.specs.Calls.{nightTests}
 use Rattle.yard.specs.Demands.{Within, Listed}
 use Rattle.yard.proofs.general.Bools.{split, clash, and-left, and-right, and-both, not-false}
@@ -137,7 +137,7 @@ module _ (inbound : List ℕ) where
   )
     where
       searched : (inboundTest inbound .number ≡ 0) ↔ ((j : ℕ) → 1 ≤ j → j ≤ length inbound → badPlace inbound j ≡ false)
-      searched = none-passed (badPlace inbound) (length inbound) 2 (firstBad inbound) 0
+      searched = none-passed (badPlace inbound) (length inbound) 2 (firstBad inbound) (firstListing inbound (firstBad inbound))
 
       by-index : ((i : ℕ) → i < length inbound → badPlace inbound (suc i) ≡ false) → (j : ℕ) → 1 ≤ j → j ≤ length inbound → badPlace inbound j ≡ false
       by-index f zero l m = absurd (omega arith)

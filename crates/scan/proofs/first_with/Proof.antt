@@ -1,4 +1,4 @@
--- The proof of `first_empty`: what is left of the search finds what the whole search finds.
+-- The proof of `first_with`: what is left of the search finds what the whole search finds.
 use mathlib.Core.Bool.{Bool}
 use mathlib.Core.List.{List}
 use mathlib.Core.Path.{_≡_}
@@ -12,22 +12,22 @@ use borrow.Author.Tests.{eq-eqb, ne-eqb}
 use Rattle.yard.specs.Night.{itemOf}
 use Rattle.yard.proofs.calls.Tests.{item-at}
 use Rattle.scan.proofs.Left.{left-start, place-hits, place-goes, place-ends}
-use Rattle.scan.proofs.first_empty.Statement.{statement}
-use Rattle.scan.proofs.first_empty.Tie as tie
+use Rattle.scan.proofs.first_with.Statement.{statement}
+use Rattle.scan.proofs.first_with.Tie as tie
 
-abbrev empty : List ℕ → ℕ → Bool
-empty lengths train = eqb (itemOf lengths train) 0
+abbrev has : List ℕ → ℕ → ℕ → Bool
+has items number k = eqb (itemOf items k) number
 
 abbrev Inv-loop : tie.InvT-loop
-Inv-loop lengths t₀ t-end t = (t ≤ length lengths) × (first (empty lengths) (length lengths - t) (t + 1) ≡ first (empty lengths) (length lengths) 1)
+Inv-loop number items k₀ k-end k = (k ≤ length items) × (first (has items number) (length items - k) (k + 1) ≡ first (has items number) (length items) 1)
 
 abbrev μ-loop : tie.MeasureT-loop
-μ-loop lengths t₀ t-end t = length lengths - t
+μ-loop number items k₀ k-end k = length items - k
 
 loop-holds : tie.Need-loop-holds Inv-loop μ-loop
 loop-holds c =
-    let lengths = now (c .args .lengths) in
-    (omega arith, left-start (empty lengths) (length lengths) 1)
+    let items = now (c .args .items) in
+    (omega arith, left-start (has items (c .args .number)) (length items) 1)
 
 returns : tie.Need-returns Inv-loop μ-loop
 returns c =
@@ -42,8 +42,8 @@ loop-again c =
 returns-2 : tie.Need-returns-2 Inv-loop μ-loop
 returns-2 c = place-ends _ _ _ _ (c .before .loop .inv .1) (c .loop-test .left) (c .before .loop .inv .0)
 
-pub first-empty-spec : {M : Type 1} → statement M
-first-empty-spec =
+pub first-with-spec : {M : Type 1} → statement M
+first-with-spec =
     tie.close
     (tie.spec
     Inv-loop μ-loop loop-holds (λ c. omega arith) (λ c. omega arith) (λ c. omega arith) returns (λ c. omega arith) (λ c. omega arith) loop-again
