@@ -20,7 +20,8 @@
  *    1   a count out of its range                             A: 1 cars, 2 trains, 3 tracks, 4 room, 5 steps or limit,
  *                                                                6 stage above h, 7 passes
  *    2   a train of length 0, or lengths not adding up to n   A: first such train, or 0 for the sum
- *    3   inbound list not each car once                       A: first place with a number out of range or met before
+ *    3   inbound list not each car once                       A: first place with a number out of range or met before,
+ *                                                                B: where one met before is first listed, or 0
  *    4   a list whose length isn't its count, or a buffer to  A: 1 lengths, 2 inbound, 3 codes, 4 tracks, 5 places,
  *        be written too short                                    6 card
  *    5   fewest steps above the limit                         A: fewest steps (may exceed 8)

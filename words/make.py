@@ -15,10 +15,11 @@ ROOT = Path(__file__).resolve().parent.parent
 TABLE = ROOT / "words" / "refusals.tsv"
 MADE = "made from words/refusals.tsv by words/make.py"
 WIDTH = 120
+ANY = (None, None)
 
 
 class Row(NamedTuple):
-    """A number, its constant's name, its words, what A and B are, and the details' words by A (None: any other)."""
+    """A number, its constant's name, its words, what A and B are, and the details' words by A and B (None: any other)."""
 
     number: int
     name: str
@@ -36,15 +37,21 @@ def key(text):
     return None if text == "*" else int(text)
 
 
+def keys(text):
+    """A and B of an entry: A alone stands for every B."""
+    a, _, b = text.partition(",")
+    return key(a), key(b or "*")
+
+
 def details_of(text):
-    """The words of the details by A."""
+    """The words of the details by A and B."""
     pairs = (entry.strip().split(" ", 1) for entry in text.split(";") if entry.strip())
-    return {key(a): words for a, words in pairs}
+    return {keys(at): words for at, words in pairs}
 
 
 def meaning_of(told, details):
     """What A and B are; where the table leaves it out, the words by A say it."""
-    named = ", ".join(f"{a} {words}" for a, words in details.items() if a is not None)
+    named = ", ".join(f"{a} {words}" for (a, _), words in details.items() if a is not None)
     return told or (f"A: {named}" if named else "")
 
 
@@ -58,9 +65,9 @@ def row_of(line):
 
 
 def filled(row, other):
-    """A row's details, named ones first, with words for every A."""
-    named = {a: words for a, words in row.details.items() if a is not None}
-    return {**named, None: row.details.get(None, other.details[None])}
+    """A row's details, named ones first, with words for every A and B."""
+    named = {at: words for at, words in row.details.items() if at != ANY}
+    return {**named, ANY: row.details.get(ANY, other.details[ANY])}
 
 
 def read(text):
@@ -156,9 +163,10 @@ def rust_match(title, head, on, arms):
 
 def rust_details(row, other):
     """The arms of a row's details; what no row tells is left to the last arm."""
-    for a, told in row.details.items():
-        if told != other.details[None]:
-            yield f"({row.number}, {'_' if a is None else a}) => {rust_text(told)}"
+    for at, told in row.details.items():
+        if told != other.details[ANY]:
+            pattern = ", ".join("_" if number is None else str(number) for number in (row.number, *at))
+            yield f"({pattern}) => {rust_text(told)}"
 
 
 def rust(rows, other, _old):
@@ -169,9 +177,9 @@ def rust(rows, other, _old):
     lines += rust_match("The kind of a number.", "kind(number: usize) -> Kind", "number", kinds)
     words = [f"{row.number} => {quoted(row.words)}" for row in rows] + [f"_ => {quoted(other.words)}"]
     lines += rust_match("The words of a number.", "words(number: usize) -> &'static str", "number", words)
-    details = [arm for row in rows for arm in rust_details(row, other)] + [f"_ => {rust_text(other.details[None])}"]
+    details = [arm for row in rows for arm in rust_details(row, other)] + [f"_ => {rust_text(other.details[ANY])}"]
     head = "details(number: usize, a: usize, b: usize) -> String"
-    lines += rust_match("The words of the details.", head, "(number, a)", details)
+    lines += rust_match("The words of the details.", head, "(number, a, b)", details)
     return "\n".join(lines) + "\n"
 
 
@@ -182,7 +190,7 @@ def python_dict(name, kind, rows, told):
 
 def python_details(row):
     """A row's details as Python writes them."""
-    return "{" + ", ".join(f"{a}: {quoted(words)}" for a, words in row.details.items()) + "}"
+    return "[" + ", ".join(f"({a}, {b}, {quoted(words)})" for (a, b), words in row.details.items()) + "]"
 
 
 def python(rows, other, _old):
@@ -191,8 +199,8 @@ def python(rows, other, _old):
     lines += [f"UNKNOWN = {quoted(other.words)}", ""]
     lines += python_dict("NAMES", "dict[int, str]", rows, lambda row: quoted(row.name)) + [""]
     lines += python_dict("WORDS", "dict[int, str]", rows, lambda row: quoted(row.words)) + [""]
-    lines += ["# The words of the details by A, None for every other A; {a} and {b} are the details themselves."]
-    lines += python_dict("DETAILS", "dict[int, dict[int | None, str]]", rows, python_details)
+    lines += ["# The words of the details by A and B, None for every other; {a} and {b} are the details themselves."]
+    lines += python_dict("DETAILS", "dict[int, list[tuple[int | None, int | None, str]]]", rows, python_details)
     return "\n".join(lines) + "\n"
 
 

@@ -136,7 +136,7 @@ def _plan(plan: Plan) -> tuple[Any, ...]:
 
 def _refusal(answer: Any, **given: Any) -> Refusal:
     """The refusal in an answer, which names what was given there."""
-    return Refusal(answer.number, answer.a, answer.b, place(answer.number, answer.a, given))
+    return Refusal(answer.number, answer.a, answer.b, place(answer.number, answer.a, answer.b, given))
 
 
 def _plan_refusal(answer: Any, plan: Plan, **given: Any) -> Refusal:

@@ -24,9 +24,11 @@ VALUES = {
 }
 
 
-def place(number: int, a: int, given: dict[str, Any]) -> str | None:
+def place(number: int, a: int, b: int, given: dict[str, Any]) -> str | None:
     """Names what was given there, `inbound[3] is -1`, or None where the refusal speaks of no one place."""
     try:
+        if number == 3 and b > 0:
+            return f"inbound[{b - 1}] and inbound[{a - 1}] are both {_item(given['inbound'], a - 1)}"
         if number in ITEMS and a > 0:
             name = ITEMS[number]
             return f"{name}[{a - 1}] is {shown(_item(given[name], a - 1))}"

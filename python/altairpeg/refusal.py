@@ -5,13 +5,14 @@ from __future__ import annotations
 from .errors import AltairpegError
 from .words import DETAILS, NAMES, UNKNOWN, WORDS
 
-_UNKNOWN_DETAILS: dict[int | None, str] = {None: "A {a}, B {b}"}
+_UNKNOWN_DETAILS: list[tuple[int | None, int | None, str]] = [(None, None, "A {a}, B {b}")]
 
 
 def _details(number: int, a: int, b: int) -> str:
     """What the two details of a refusal say."""
-    by_a = DETAILS.get(number, _UNKNOWN_DETAILS)
-    return by_a.get(a, by_a[None]).format(a=a, b=b)
+    told = DETAILS.get(number, _UNKNOWN_DETAILS)
+    words = next(words for of_a, of_b, words in told if of_a in (None, a) and of_b in (None, b))
+    return words.format(a=a, b=b)
 
 
 class Refusal(AltairpegError):

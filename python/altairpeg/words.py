@@ -38,20 +38,20 @@ WORDS: dict[int, str] = {
     13: "a timing not allowed",
 }
 
-# The words of the details by A, None for every other A; {a} and {b} are the details themselves.
-DETAILS: dict[int, dict[int | None, str]] = {
-    0: {None: "A {a}, B {b}"},
-    1: {1: "cars", 2: "trains", 3: "tracks", 4: "room", 5: "steps or limit", 6: "stage above h", 7: "passes", None: "A {a}, B {b}"},
-    2: {0: "the sum", None: "train {a}"},
-    3: {None: "place {a}"},
-    4: {1: "lengths", 2: "inbound", 3: "codes", 4: "tracks", 5: "places", 6: "card", None: "A {a}, B {b}"},
-    5: {None: "fewest steps {a}"},
-    6: {None: "step {a}, {b} cars"},
-    7: {None: "car {a}"},
-    8: {None: "car {a}, step {b}"},
-    9: {None: "car {a}"},
-    10: {None: "{a} bytes needed, as far as known"},
-    11: {None: "edition {a}"},
-    12: {None: "right length {a}"},
-    13: {1: "pull", 2: "push", None: "A {a}, B {b}"},
+# The words of the details by A and B, None for every other; {a} and {b} are the details themselves.
+DETAILS: dict[int, list[tuple[int | None, int | None, str]]] = {
+    0: [(None, None, "A {a}, B {b}")],
+    1: [(1, None, "cars"), (2, None, "trains"), (3, None, "tracks"), (4, None, "room"), (5, None, "steps or limit"), (6, None, "stage above h"), (7, None, "passes"), (None, None, "A {a}, B {b}")],
+    2: [(0, None, "the sum"), (None, None, "train {a}")],
+    3: [(None, 0, "place {a}, out of range"), (None, None, "place {a}, met before, first listed at place {b}")],
+    4: [(1, None, "lengths"), (2, None, "inbound"), (3, None, "codes"), (4, None, "tracks"), (5, None, "places"), (6, None, "card"), (None, None, "A {a}, B {b}")],
+    5: [(None, None, "fewest steps {a}")],
+    6: [(None, None, "step {a}, {b} cars")],
+    7: [(None, None, "car {a}")],
+    8: [(None, None, "car {a}, step {b}")],
+    9: [(None, None, "car {a}")],
+    10: [(None, None, "{a} bytes needed, as far as known")],
+    11: [(None, None, "edition {a}")],
+    12: [(None, None, "right length {a}")],
+    13: [(1, None, "pull"), (2, None, "push"), (None, None, "A {a}, B {b}")],
 }

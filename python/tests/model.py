@@ -25,10 +25,11 @@ def night_tests(night):
     for train, length in enumerate(night.lengths, 1):
         yield length >= 1, (2, train, 0)
     yield sum(night.lengths) == len(night.inbound), (2, 0, 0)
-    met = set()
+    met = {}
     for place, car in enumerate(night.inbound, 1):
-        yield 1 <= car <= len(night.inbound) and car not in met, (3, place, 0)
-        met.add(car)
+        yield 1 <= car <= len(night.inbound), (3, place, 0)
+        yield car not in met, (3, place, met.get(car))
+        met[car] = place
 
 
 def code_tests(night, steps, codes):

@@ -107,7 +107,11 @@ class Lists(Scratch):
 
     def test_the_message_names_the_place(self):
         refusal = self.refused(3, 4, 0, derive, Night([6], [3, 6, 1, -1, 2, 4], 2, 3))
-        self.assertEqual(str(refusal), "refused 3 4 0: inbound list not each car once (place 4): inbound[3] is -1")
+        self.assertEqual(str(refusal), "refused 3 4 0: inbound list not each car once (place 4, out of range): inbound[3] is -1")
+        refusal = self.refused(3, 5, 2, derive, Night([6], [3, 6, 1, 5, 6, 4], 2, 3))
+        self.assertEqual(refusal.place, "inbound[1] and inbound[4] are both 6")
+        # Numbers too large for C are one stand-in there, and still out of range, not met before.
+        self.refused(3, 2, 0, derive, Night([3], [1, 70000, 70001], 2, 3))
         refusal = self.refused(3, 1, 0, derive, Night([6], [10**5000, 6, 1, 5, 2, 4], 2, 3))
         self.assertEqual(refusal.place, "inbound[0] is a number of 16610 bits")
         self.assertEqual(self.refused(2, 2, 0, derive, Night([7, -1], INBOUND, 2, 3)).place, "lengths[1] is -1")
@@ -216,10 +220,11 @@ class Answers(Scratch):
             self.assertTrue(issubclass(error, AltairpegError))
 
     def test_refusals_in_words(self):
-        refusal = self.refused(3, 2, 0, derive, Night([2], [1, 1], 2, 512))
-        self.assertEqual((refusal.name, refusal.words, refusal.details), ("INBOUND_WRONG", "inbound list not each car once", "place 2"))
+        refusal = self.refused(3, 2, 1, derive, Night([2], [1, 1], 2, 512))
+        self.assertEqual((refusal.name, refusal.words), ("INBOUND_WRONG", "inbound list not each car once"))
+        self.assertEqual(refusal.details, "place 2, met before, first listed at place 1")
         again = pickle.loads(pickle.dumps(refusal))
-        self.assertEqual((str(again), again.place), (str(refusal), "inbound[1] is 1"))
+        self.assertEqual((str(again), again.place), (str(refusal), "inbound[0] and inbound[1] are both 1"))
 
     def test_a_number_that_the_paper_does_not_have(self):
         self.assertEqual(str(Refusal(99, 1, 2)), "refused 99 1 2: a number the paper does not have (A 1, B 2)")

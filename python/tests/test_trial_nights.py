@@ -52,7 +52,7 @@ class TrialNights(Scratch):
         self.refused(8, 1, 0, check, Plan(Night([1], [1], 2, 512), 3, [4]))
 
     def test_case_12(self):
-        self.refused(3, 2, 0, derive, Night([2], [1, 1], 2, 512))
+        self.refused(3, 2, 1, derive, Night([2], [1, 1], 2, 512))
 
     def test_case_13(self):
         self.refused(5, 3, 0, derive, n(tracks=1), 2)

@@ -123,8 +123,13 @@ fn case_11_pulled_early() {
 fn case_12_a_car_twice() {
     assert_eq!(
         derive(night(&[2], &[1, 1], 2, 512), 8),
-        Err(refused(3, 2, 0))
+        Err(refused(3, 2, 1))
     );
+    assert_eq!(
+        refused(3, 2, 1).details(),
+        "place 2, met before, first listed at place 1"
+    );
+    assert_eq!(refused(3, 2, 0).details(), "place 2, out of range");
 }
 
 #[test]

@@ -235,9 +235,17 @@ fn test_lengths(lengths: &[u16], cars: usize) -> Result<(), Refusal> {
 
 fn test_inbound(inbound: &[u16]) -> Result<(), Refusal> {
     for (place, &car) in inbound.iter().enumerate() {
-        let out_of_range = car == 0 || usize::from(car) > inbound.len();
-        if out_of_range || inbound[..place].contains(&car) {
+        if car == 0 || usize::from(car) > inbound.len() {
             return Err(refuse(3, place + 1));
+        }
+        for (earlier, &met) in inbound[..place].iter().enumerate() {
+            if met == car {
+                let b = earlier + 1;
+                return Err(Refusal {
+                    b,
+                    ..refuse(3, place + 1)
+                });
+            }
         }
     }
     Ok(())

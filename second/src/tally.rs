@@ -20,7 +20,8 @@ pub enum Detail {
     Done,
     Exactly(usize),
     Train,
-    Place,
+    OutOfRange,
+    MetBefore,
     Car,
     CarInStep(usize),
     UpTo8,
@@ -34,7 +35,8 @@ impl Detail {
         match number {
             0 => Detail::Done,
             2 if a > 0 => Detail::Train,
-            3 => Detail::Place,
+            3 if b == 0 => Detail::OutOfRange,
+            3 => Detail::MetBefore,
             5 if a <= 8 => Detail::UpTo8,
             5 => Detail::Above8,
             7 | 9 => Detail::Car,
@@ -53,7 +55,8 @@ impl fmt::Display for Detail {
             Detail::Done => out.write_str("as the call says"),
             Detail::Exactly(a) => write!(out, "{a}"),
             Detail::Train => out.write_str("a train"),
-            Detail::Place => out.write_str("a place"),
+            Detail::OutOfRange => out.write_str("a place, B 0"),
+            Detail::MetBefore => out.write_str("a place, B before it"),
             Detail::Car => out.write_str("a car"),
             Detail::CarInStep(step) => write!(out, "a car, B {step}"),
             Detail::UpTo8 => out.write_str("1 to 8"),
@@ -92,11 +95,11 @@ impl Tally {
 
     /// The table 'call, number, A, times'.
     pub fn table(&self) -> String {
-        let mut table = String::from("call          number  A                      times\n");
+        let mut table = String::from("call          number  A                          times\n");
         for ((call, number, detail), times) in &self.times {
             let call = format!("{call:?}");
             let detail = detail.to_string();
-            table += &format!("{call:<12}  {number:>6}  {detail:<16}  {times:>10}\n");
+            table += &format!("{call:<12}  {number:>6}  {detail:<20}  {times:>10}\n");
         }
         table
     }
@@ -110,7 +113,7 @@ pub fn required() -> Vec<Reached> {
         require(&mut all, call, 0, [Detail::Done]);
         require(&mut all, call, 1, (1..=5).map(Detail::Exactly));
         require(&mut all, call, 2, [Detail::Exactly(0), Detail::Train]);
-        require(&mut all, call, 3, [Detail::Place]);
+        require(&mut all, call, 3, [Detail::OutOfRange, Detail::MetBefore]);
         require(&mut all, call, 4, [Detail::Exactly(3)]);
     }
     require(&mut all, Derive, 5, [Detail::UpTo8, Detail::Above8]);

@@ -170,8 +170,12 @@ fn buffers_come_before_the_lists_and_lists_before_the_end() {
     assert_eq!(run(&card, 1, 6, 6), Some(refuse(2, 0)));
     let mut card = flipped(&[58, 127]);
     card.push(0);
-    // Read as 2 6 1 5 2 4: the second 2, at place 5, was met before.
-    assert_eq!(refused(&card), Some(refuse(3, 5)));
+    // Read as 2 6 1 5 2 4: the second 2, at place 5, was met before, at place 1.
+    let met_before = Refusal {
+        b: 1,
+        ..refuse(3, 5)
+    };
+    assert_eq!(refused(&card), Some(met_before));
     let padded = flipped(&[127]);
     assert_eq!(refused(&padded), Some(refuse(12, 16)));
     let first_padding_bit = flipped(&[121]);

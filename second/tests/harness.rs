@@ -46,6 +46,8 @@ const ONE_BYTE_MORE: usize = 10;
 const NEGATIVE_ZERO: usize = 11;
 const WRONG_ENTRY: usize = 12;
 const LENGTH_IN_16_BITS: usize = 13;
+const LATER_LISTING: usize = 14;
+const OUT_OF_RANGE_LISTED: usize = 15;
 
 /// The idiomatic calls with one fault.
 struct Faulty<const FAULT: usize>;
@@ -98,6 +100,8 @@ impl<const FAULT: usize> Calls for Faulty<FAULT> {
                     };
                 }
             }
+            (LATER_LISTING, 3) if answer.b > 0 => answer.b = answer.a,
+            (OUT_OF_RANGE_LISTED, 3) if answer.b == 0 => answer.b = answer.a,
             (ORDER_NOT_TESTED, 9) => answer = Answer::done(plan.codes.len(), 0),
             _ => (),
         }
@@ -178,6 +182,8 @@ fn faults_of_check_and_replay_are_found() {
     is_found::<ONE_PASS_MORE>();
     is_found::<ROOM_BEFORE_EARLY>();
     is_found::<ORDER_NOT_TESTED>();
+    is_found::<LATER_LISTING>();
+    is_found::<OUT_OF_RANGE_LISTED>();
     is_found::<TURNED_ROUND>();
     is_found::<REFUSED_AND_WRITTEN>();
 }

@@ -55,7 +55,7 @@ fn mend_the_night(call: &str, run: &dyn Fn(&Faulty) -> Option<Refusal>) -> Fault
         (&|it| it.room = 1, (1, 5, 0)),
         (&|it| it.steps = 2, (2, 2, 0)),
         (&|it| it.lengths = vec![2, 1, 2], (2, 0, 0)),
-        (&|it| it.lengths = vec![3, 1], (3, 3, 0)),
+        (&|it| it.lengths = vec![3, 1], (3, 3, 1)),
         (&|it| it.inbound = vec![0, 3, 1, 9], (3, 1, 0)),
     ];
     let mut faulty = Faulty::in_all_counts();

@@ -166,7 +166,7 @@ fn case_11_pulls_a_car_early() {
 
 #[test]
 fn case_12_meets_a_car_twice() {
-    assert_eq!(derived(night(&[2], &[1, 1], 2, 512)), Err(refusal(3, 2, 0)));
+    assert_eq!(derived(night(&[2], &[1, 1], 2, 512)), Err(refusal(3, 2, 1)));
 }
 
 #[test]

@@ -78,5 +78,5 @@ module _ (n : Night) (derived : deriveAnswer limits n 8 512 .number ≡ 0) where
       let own = lengthAsk 3 (length (p .codes)) (length (p .night .inbound)) ∷ codeAsk (p .steps) (p .codes) ∷ [] in
       let held = opening-holds limits (p .night) (p .steps) [] own .1 (w .given, tt, (w .each, (w .below, tt))) in
       writer-refuses-exactly limits p size 4 6 0 (omega arith) .1
-      (fails-behind (says 0 long 0) refl 4 6 0 (opening limits (p .night) (p .steps) [] own) (bufferAsk 6 long size ∷ []) held
+      (fails-behind 4 6 0 (opening limits (p .night) (p .steps) [] own) (bufferAsk 6 long size ∷ []) held
       (inl (λ fits. omega (arith, short, fits), refl, (refl, refl))))

@@ -1,22 +1,24 @@
 -- Demands 1 and 2 for the card's calls: what reader and writer accept, and every refusal with its number, A and B.
 use Prim.Native.Nat.{ℕ, suc, _≤_, _<_}
 use mathlib.Core.Path.{_≡_, refl}
-use mathlib.Core.Logic.{_⊎_, _↔_}
+use mathlib.Core.Logic.{_⊎_, _↔_, Iff·trans}
 use mathlib.Core.Bool.{true}
 use mathlib.Core.List.{List, [], _∷_, _++_}
+use native.Mathlib.Omega.{arith}
 use lib.Dec.{leb, eqb}
 use lib.ListN.{length}
 use borrow.Author.Tests.{eqb-true, eq-eqb}
 use Rattle.yard.specs.Limits.{Limits}
 use Rattle.yard.specs.declared.Head.{Head}
 use Rattle.yard.specs.Night.{Night, Plan}
+use Rattle.yard.specs.Demands.{ListedWrong, InboundWrong}
 use Rattle.yard.specs.Answers.{says, Ask, AllHold, FirstFails}
 use Rattle.yard.specs.Calls.{listAsks}
 use Rattle.yard.specs.Card.{card, headLength, headOn, cardPlan, rightLength, endsRight, writerOwn, writerAsks, writerAnswer, Writable}
 use Rattle.yard.specs.Card.{cardLength, bytesAsk, editionAsk, endAsk, headAsks, sizeAsks, readerAsks, readerVerdict, Readable}
-use Rattle.yard.proofs.calls.Asks.{Right, Sound, holds-append, sound-append, accepted-exactly, refused-exactly, plain-right}
+use Rattle.yard.proofs.calls.Asks.{Right, Sound, holds-append, sound-append, fails-past, accepted-exactly, refused-exactly, plain-right}
 use Rattle.yard.proofs.calls.Rights.{at-most-right, length-right, buffer-right, code-right}
-use Rattle.yard.proofs.Demands.{counts-sound, counts-hold, lists-sound, lists-hold, opening-sound, opening-holds}
+use Rattle.yard.proofs.Demands.{counts-sound, counts-hold, lists-sound, lists-hold, lists-wrong, opening-sound, opening-holds, call-wrong}
 
 -- ---- the writer
 
@@ -49,6 +51,11 @@ module _ (L : Limits) (p : Plan) (size : ℕ) where
   pub writer-refuses-exactly : (k a b : ℕ) → 0 < k → (writerAnswer L p size ≡ says k a b) ↔ FirstFails k a b (writerAsks L p size)
   unfolding writerAnswer
   writer-refuses-exactly k a b pos = refused-exactly (says 0 (length (card p)) 0) refl k a b pos (writerAsks L p size) writer-sound
+
+  -- 3 comes exactly if the inbound list is the first thing at fault, with the first place at fault and its number's first listing
+  pub writer-listing-exactly : (a b : ℕ) → (writerAnswer L p size ≡ says 3 a b) ↔ InboundWrong L (p .night) (p .steps) a b
+  writer-listing-exactly a b =
+      Iff·trans (writer-refuses-exactly 3 a b (omega arith)) (call-wrong L (p .night) (p .steps) (writerOwn p size) (omega arith) a b)
 
 -- ---- the reader
 
@@ -144,3 +151,19 @@ module _ (L : Limits) (bytes : List ℕ) (lengthsSize inboundSize codesSize : �
       → (readerVerdict L bytes lengthsSize inboundSize codesSize ≡ says k a b) ↔ FirstFails k a b (readerAsks L bytes lengthsSize inboundSize codesSize)
   unfolding readerVerdict
   reader-refuses-exactly k a b pos = refused-exactly (says 0 0 0) refl k a b pos (readerAsks L bytes lengthsSize inboundSize codesSize) reader-sound
+
+  -- 3 comes exactly if head, size and buffers are right and of the card's lists the inbound one is the first at fault
+  pub reader-listing-exactly : (a b : ℕ)
+      → (readerVerdict L bytes lengthsSize inboundSize codesSize ≡ says 3 a b) ↔
+      (AllHold first-asks × AllHold sizes × ListedWrong (night .lengths) (night .inbound) a b)
+  reader-listing-exactly a b =
+      let headed = fails-past 3 a b first-asks (sizes ++ last-asks) (omega arith) in
+      let sized = fails-past 3 a b sizes last-asks (omega arith) in
+      let listed = lists-wrong night (endAsk bytes ∷ []) (omega arith) a b in
+      Iff·trans (reader-refuses-exactly 3 a b (omega arith)) (
+        λ f.
+            let (front, f) = headed .0 f in
+            let (fits, f) = sized .0 f in
+            (front, fits, listed .0 f),
+        λ (front, fits, wrong). headed .1 (front, sized .1 (fits, listed .1 wrong)),
+      )

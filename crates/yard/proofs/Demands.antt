@@ -1,7 +1,7 @@
 -- The demands, as theorems on the calls' outcomes: what a customer may rely on.
 use Prim.Native.Nat.{ℕ, suc, _≤_, _<_}
 use mathlib.Core.Path.{_≡_, refl, sym, ap, _∙_}
-use mathlib.Core.Logic.{_⊎_, _↔_}
+use mathlib.Core.Logic.{_⊎_, _↔_, Iff·trans}
 use mathlib.Core.List.{List, [], _∷_, _++_}
 use native.Mathlib.Omega.{arith}
 use lib.ListN.{length}
@@ -10,18 +10,18 @@ use Rattle.yard.specs.Limits.{Limits}
 use Rattle.yard.specs.Night.{Night, Plan}
 use Rattle.yard.specs.Replay.{yardAt, passes, fullestPull, pullSize}
 use Rattle.yard.specs.Derived.{stepsNeeded, derivedCodes, derivedPlan}
-use Rattle.yard.specs.Demands.{Least, Within, InLimits, Listed, Given, CodesFormed, HasRoom, Sorts, Sortable, OverfullStep}
-use Rattle.yard.specs.Answers.{says, Ask, AllHold, FirstFails, countAsk, bufferAsk, limitAsk, roomAsk}
-use Rattle.yard.specs.Calls.{countAsks, listAsks, opening, deriveAsks, deriveTests, deriveAnswer, DeriveGiven, Derivable, Derives, checkOwn}
+use Rattle.yard.specs.Demands.{Least, Within, InLimits, Listed, ListedWrong, InboundWrong, Given, CodesFormed, HasRoom, Sorts, Sortable, OverfullStep}
+use Rattle.yard.specs.Answers.{says, Ask, AllHold, FirstFails, countAsk, trainAsk, sumAsk, inboundAsk, bufferAsk, limitAsk, roomAsk}
+use Rattle.yard.specs.Calls.{countAsks, listAsks, opening, deriveOwn, deriveAsks, deriveTests, deriveAnswer, DeriveGiven, Derivable, Derives, checkOwn}
 use Rattle.yard.specs.Calls.{checkAsks, checkTests, checkAnswer, GoodPlan, Checks, replayOwn, replayAsks, replayTests, replayAnswer, Replayable}
 use Rattle.yard.specs.Calls.{Replays}
 use Rattle.yard.proofs.calls.Verdict.{verdict-done}
 use Rattle.yard.proofs.yards.Plans.{range-once}
 use Rattle.yard.proofs.yards.Least.{least-steps}
 use Rattle.yard.proofs.yards.DerivedPlan.{derived-sorts}
-use Rattle.yard.proofs.calls.Asks.{Sound, holds-append, sound-append, accepted-exactly, refused-exactly, refused-at}
+use Rattle.yard.proofs.calls.Asks.{Sound, Unnamed, holds-append, sound-append, fails-past, fails-at, accepted-exactly, refused-exactly, refused-at}
 use Rattle.yard.proofs.calls.Rights.{count-right, length-right, buffer-right, train-right, sum-right, inbound-right, code-right, early-right}
-use Rattle.yard.proofs.calls.Rights.{room-right, overfull-full, order-right, limit-right}
+use Rattle.yard.proofs.calls.Rights.{bad-not-once, room-right, overfull-full, order-right, limit-right}
 
 -- ---- what the opening asks yields, by name
 
@@ -54,6 +54,19 @@ lists-hold n = (
   λ l. (l .nonempty, (l .adds, (l .once, tt))),
 )
 
+-- 3 comes for the lists exactly if the lengths are well formed and the inbound list is not, whatever is asked behind them
+pub lists-wrong : (n : Night) (others : List Ask) → Unnamed 3 others
+    → (a b : ℕ) → FirstFails 3 a b (listAsks n ++ others) ↔ ListedWrong (n .lengths) (n .inbound) a b
+lists-wrong n others behind a b =
+    let before = trainAsk (n .lengths) ∷ sumAsk (n .lengths) (length (n .inbound)) ∷ [] in
+    let at = fails-at before (inboundAsk (n .inbound)) others (omega arith) behind a b in (
+      λ f.
+          let (front, _, told) = at .0 f in
+          let (nonempty, adds) = front in
+          record { nonempty = nonempty; adds = adds .0; place = told .0; listing = told .1 },
+      λ w. at .1 ((w .nonempty, (w .adds, tt)), bad-not-once (n .inbound) a (w .place .holds), (w .place, w .listing)),
+    )
+
 module _ (L : Limits) (n : Night) (h : ℕ) (counts others : List Ask) where
   abbrev nightCounted : List Ask
   nightCounted = countAsks L (length (n .inbound)) (length (n .lengths)) (n .tracks) (n .room) h
@@ -83,6 +96,27 @@ module _ (L : Limits) (n : Night) (h : ℕ) (counts others : List Ask) where
           holds-append counts (listAsks n ++ others) .1 (own, holds-append (listAsks n) others .1 (lists-hold n .1 (given .lists), rest)),
         ),
   )
+
+  -- 3 comes exactly if all counts lie in their ranges and of the lists the inbound one is the first at fault
+  pub opening-wrong : Unnamed 3 counts → Unnamed 3 others
+      → (a b : ℕ) → FirstFails 3 a b (opening L n h counts others) ↔ (InboundWrong L n h a b × AllHold counts)
+  opening-wrong own behind a b =
+      let counted = fails-past 3 a b nightCounted (counts ++ (listAsks n ++ others)) (omega arith) in
+      let more = fails-past 3 a b counts (listAsks n ++ others) own in
+      let listed = lists-wrong n others behind a b in (
+        λ f.
+            let (limits, f) = counted .0 f in
+            let (held, f) = more .0 f in
+            (record { counts = night-counts-hold .0 limits; lists = listed .0 f }, held),
+        λ (wrong, held). counted .1 (night-counts-hold .1 (wrong .counts), more .1 (held, listed .1 (wrong .lists))),
+      )
+
+-- the same for a call that has no counts of its own
+pub call-wrong : (L : Limits) (n : Night) (h : ℕ) (others : List Ask) → Unnamed 3 others
+    → (a b : ℕ) → FirstFails 3 a b (opening L n h [] others) ↔ InboundWrong L n h a b
+call-wrong L n h others behind a b =
+    let wrong = opening-wrong L n h [] others tt behind a b in
+    (λ f. wrong .0 f .0, λ w. wrong .1 (w, tt))
 
 -- ---- demands 1 and 2: check
 
@@ -133,6 +167,11 @@ module _ (L : Limits) (p : Plan) where
   unfolding checkAnswer
   check-refuses-exactly k a b pos = refused-exactly check-done refl k a b pos (checkAsks L p) check-sound
 
+  -- 3 comes exactly if the inbound list is the first thing at fault, with the first place at fault and its number's first listing
+  pub check-listing-exactly : (a b : ℕ) → (checkAnswer L p ≡ says 3 a b) ↔ InboundWrong L (p .night) (p .steps) a b
+  check-listing-exactly a b =
+      Iff·trans (check-refuses-exactly 3 a b (omega arith)) (call-wrong L (p .night) (p .steps) (checkOwn p) (omega arith) a b)
+
 -- ---- demands 1 and 2: replay to a stage
 
 module _ (L : Limits) (p : Plan) (stage trackSize placeSize : ℕ) where
@@ -182,6 +221,12 @@ module _ (L : Limits) (p : Plan) (stage trackSize placeSize : ℕ) where
   unfolding replayAnswer
   replay-refuses-exactly k a b pos = refused-exactly replay-done refl k a b pos (replayAsks L p stage trackSize placeSize) replay-sound
 
+  pub replay-listing-exactly : (a b : ℕ)
+      → (replayAnswer L p stage trackSize placeSize ≡ says 3 a b) ↔ (InboundWrong L (p .night) (p .steps) a b × Within 0 (p .steps) stage)
+  replay-listing-exactly a b =
+      let wrong = opening-wrong L (p .night) (p .steps) (countAsk 6 0 (p .steps) stage ∷ []) (replayOwn p trackSize placeSize) (omega arith) (omega arith) a b in
+      Iff·trans (replay-refuses-exactly 3 a b (omega arith)) (λ f. let (w, own) = wrong .0 f in (w, own .0), λ (w, reached). wrong .1 (w, (reached, tt)))
+
 -- ---- demand 3: the bill is the least there is
 
 -- Room aside, and whatever the limit: for every night of at least one train and one track whose lists are well formed, the derived
@@ -206,7 +251,7 @@ module _ (L : Limits) (n : Night) (limit size : ℕ) where
 
   derive-sound : Sound (deriveAsks L n limit size)
   derive-sound =
-      opening-sound L n limit [] (bufferAsk 3 (length (n .inbound)) size ∷ limitAsk n limit ∷ roomAsk (derivedPlan n) ∷ []) tt
+      opening-sound L n limit [] (deriveOwn n limit size) tt
       (λ given. (
         buffer-right 3 (length (n .inbound)) size,
         λ _. (limit-right n limit (given .counts .trains .0) (given .counts .tracks .0) (given .lists), λ _. (room-right (derivedPlan n), λ _. tt)),
@@ -242,6 +287,10 @@ module _ (L : Limits) (n : Night) (limit size : ℕ) where
   pub derive-refuses-exactly : (k a b : ℕ) → 0 < k → (deriveAnswer L n limit size ≡ says k a b) ↔ FirstFails k a b (deriveAsks L n limit size)
   unfolding deriveAnswer
   derive-refuses-exactly k a b pos = refused-exactly derive-done refl k a b pos (deriveAsks L n limit size) derive-sound
+
+  pub derive-listing-exactly : (a b : ℕ) → (deriveAnswer L n limit size ≡ says 3 a b) ↔ InboundWrong L n limit a b
+  derive-listing-exactly a b =
+      Iff·trans (derive-refuses-exactly 3 a b (omega arith)) (call-wrong L n limit (deriveOwn n limit size) (omega arith) a b)
 
   -- a limit is refused exactly if no plan that builds the trains keeps to it, whatever its codes; A is the least limit that one keeps to
   pub derive-limit-exactly : (a b : ℕ)

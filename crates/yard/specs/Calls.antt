@@ -42,13 +42,15 @@ abbrev pub nightCounts : Limits → Night → ℕ → List Answer
 nightCounts L n h = countTests L (length (n .inbound)) (length (n .lengths)) (n .tracks) (n .room) h
 
 -- Derive: a night, a step limit, and a lent buffer for the codes, of which only the size counts.
-abbrev pub deriveAsks : Limits → Night → ℕ → ℕ → List Ask
-deriveAsks L n limit size =
-    opening L n limit []
-    (bufferAsk 3 (length (n .inbound)) size ∷
+abbrev pub deriveOwn : Night → ℕ → ℕ → List Ask
+deriveOwn n limit size =
+    bufferAsk 3 (length (n .inbound)) size ∷
     limitAsk n limit ∷
     roomAsk (derivedPlan n) ∷
-    [])
+    []
+
+abbrev pub deriveAsks : Limits → Night → ℕ → ℕ → List Ask
+deriveAsks L n limit size = opening L n limit [] (deriveOwn n limit size)
 
 abbrev pub deriveTests : Limits → Night → ℕ → ℕ → List Answer
 deriveTests L n limit size = answers (deriveAsks L n limit size)

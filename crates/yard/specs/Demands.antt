@@ -89,6 +89,19 @@ BadPlace inbound k = Within 1 (length inbound) k × ((CarAt inbound k → ⊥) �
 abbrev pub ListedAt : List ℕ → ℕ → ℕ → Type 0
 ListedAt inbound k j = ((CarAt inbound k → ⊥) × (j ≡ 0)) ⊎ (CarAt inbound k × Least (MetAt inbound k) j)
 
+-- the lengths are well formed, and the inbound list is not: place a is the first with a number out of range or met before, and b
+-- tells where that number was first listed
+pub record ListedWrong (lengths inbound : List ℕ) (a b : ℕ) : Type 0 where
+  pub nonempty : NoneEmpty lengths
+  pub adds : sum lengths ≡ length inbound
+  pub place : Least (BadPlace inbound) a
+  pub listing : ListedAt inbound a b
+
+-- a night whose counts are well formed, with its steps or step limit, and whose inbound list is not
+pub record InboundWrong (L : Limits) (n : Night) (h a b : ℕ) : Type 0 where
+  pub counts : InLimits L (length (n .inbound)) (length (n .lengths)) (n .tracks) (n .room) h
+  pub lists : ListedWrong (n .lengths) (n .inbound) a b
+
 -- step k takes a car that its code does not name; some car
 unfoldable pub TakesEarly : Plan → ℕ → ℕ → Type 0
 TakesEarly p k car = (0 < count car (pulled p k)) × (bit k (codeOf p car) ≡ false)

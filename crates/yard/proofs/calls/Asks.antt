@@ -48,6 +48,38 @@ answer-of {l = l} {a = a} {b = b} e f g = ap (λ (x : ℕ). says x a b) e ∙ ap
 refused : (q : Ask) (asks : List Ask) (done : Answer) → Right q → verdict (says (q .number) (q .a) (q .b) ∷ answers asks) done ≡ says (q .number) (q .a) (q .b)
 refused q asks done right = verdict-refused (says (q .number) (q .a) (q .b)) (answers asks) done (right .named)
 
+-- no other ask of a list has this number
+abbrev pub Unnamed : ℕ → List Ask → Type 0
+Unnamed k [] = Unit
+Unnamed k (q ∷ asks) = (q .number ≡ k → ⊥) × Unnamed k asks
+
+never-named : (k a b : ℕ) (asks : List Ask) → Unnamed k asks → FirstFails k a b asks → ⊥
+never-named k a b [] u f = f
+never-named k a b (q ∷ asks) u f = ⊎-elim (λ g. u .0 (g .1)) (λ g. never-named k a b asks (u .1) (g .1)) f
+
+pub fails-past : (k a b : ℕ) (xs ys : List Ask) → Unnamed k xs → FirstFails k a b (xs ++ ys) ↔ (AllHold xs × FirstFails k a b ys)
+fails-past k a b [] ys u = (λ f. (tt, f), λ f. f .1)
+fails-past k a b (q ∷ xs) ys u = (
+  ⊎-elim (λ f. absurd (u .0 (f .1))) (λ f. let g = fails-past k a b xs ys (u .1) .0 (f .1) in ((f .0, g .0), g .1)),
+  λ f. inr (f .0 .0, fails-past k a b xs ys (u .1) .1 (f .0 .1, f .1)),
+)
+
+-- the first to fail is an ask whose number no other has
+pub fails-at : (xs : List Ask) (q : Ask) (ys : List Ask) → Unnamed (q .number) xs → Unnamed (q .number) ys
+    → (a b : ℕ) → FirstFails (q .number) a b (xs ++ (q ∷ ys)) ↔ (AllHold xs × (q .asked → ⊥) × q .told a b)
+fails-at xs q ys before behind a b =
+    let past = fails-past (q .number) a b xs (q ∷ ys) before in (
+      λ e.
+          let f = past .0 e in
+          ⊎-elim (λ g. (f .0, g .0, g .2)) (λ g. absurd (never-named (q .number) a b ys behind (g .1))) (f .1),
+      λ h. past .1 (h .0, inl (h .1, refl, h .2)),
+    )
+
+-- what fails behind asks that hold is the first to fail
+pub fails-behind : (k a b : ℕ) (xs ys : List Ask) → AllHold xs → FirstFails k a b ys → FirstFails k a b (xs ++ ys)
+fails-behind k a b [] ys h f = f
+fails-behind k a b (q ∷ xs) ys h f = inr (h .0, fails-behind k a b xs ys (h .1) f)
+
 module _ (done : Answer) (accepts : done .number ≡ 0) where
   pub accepted-exactly : (asks : List Ask) → Sound asks → (verdict (answers asks) done .number ≡ 0) ↔ AllHold asks
   accepted-exactly [] s = (λ e. tt, λ h. accepts)
@@ -83,38 +115,13 @@ module _ (done : Answer) (accepts : done .number ≡ 0) where
             (λ f. clash (s .0 .exactly .1 (f .0)) e),
       )
 
-  -- no other ask of a list has this number
-  abbrev pub Unnamed : ℕ → List Ask → Type 0
-  Unnamed k [] = Unit
-  Unnamed k (q ∷ asks) = (q .number ≡ k → ⊥) × Unnamed k asks
-
-  never-named : (k a b : ℕ) (asks : List Ask) → Unnamed k asks → FirstFails k a b asks → ⊥
-  never-named k a b [] u f = f
-  never-named k a b (q ∷ asks) u f = ⊎-elim (λ g. u .0 (g .1)) (λ g. never-named k a b asks (u .1) (g .1)) f
-
-  fails-past : (k a b : ℕ) (xs ys : List Ask) → Unnamed k xs → FirstFails k a b (xs ++ ys) ↔ (AllHold xs × FirstFails k a b ys)
-  fails-past k a b [] ys u = (λ f. (tt, f), λ f. f .1)
-  fails-past k a b (q ∷ xs) ys u = (
-    ⊎-elim (λ f. absurd (u .0 (f .1))) (λ f. let g = fails-past k a b xs ys (u .1) .0 (f .1) in ((f .0, g .0), g .1)),
-    λ f. inr (f .0 .0, fails-past k a b xs ys (u .1) .1 (f .0 .1, f .1)),
-  )
-
-  -- what fails behind asks that hold is the first to fail
-  pub fails-behind : (k a b : ℕ) (xs ys : List Ask) → AllHold xs → FirstFails k a b ys → FirstFails k a b (xs ++ ys)
-  fails-behind k a b [] ys h f = f
-  fails-behind k a b (q ∷ xs) ys h f = inr (h .0, fails-behind k a b xs ys (h .1) f)
-
   -- refused at an ask whose number no other has: those before it hold, it does not, and it tells A and B
   pub refused-at : (xs : List Ask) (q : Ask) (ys : List Ask) → 0 < q .number → Sound (xs ++ (q ∷ ys)) → Unnamed (q .number) xs → Unnamed (q .number) ys
       → (a b : ℕ) → (verdict (answers (xs ++ (q ∷ ys))) done ≡ says (q .number) a b) ↔ (AllHold xs × (q .asked → ⊥) × q .told a b)
   refused-at xs q ys pos s before behind a b =
       let whole = refused-exactly (q .number) a b pos (xs ++ (q ∷ ys)) s in
-      let past = fails-past (q .number) a b xs (q ∷ ys) before in (
-        λ e.
-            let f = past .0 (whole .0 e) in
-            ⊎-elim (λ g. (f .0, g .0, g .2)) (λ g. absurd (never-named (q .number) a b ys behind (g .1))) (f .1),
-        λ h. whole .1 (past .1 (h .0, inl (h .1, refl, h .2))),
-      )
+      let at = fails-at xs q ys before behind a b in
+      (λ e. at .0 (whole .0 e), λ h. whole .1 (at .1 h))
 
 -- ---- the least such
 

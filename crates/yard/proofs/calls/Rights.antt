@@ -155,7 +155,8 @@ module _ (inbound : List ℕ) where
       let x = itemOf inbound k in
       let n = length inbound in
       let has : ℕ → Bool = λ i. eqb (itemOf inbound i) x in
-      let near : first has n 1 ≤ j = ⊎-elim (λ le. le) (λ far. omega (arith, far, m .1, w .1)) (first-least has n 1 j (m .0) (eq-eqb (itemOf inbound j) x (m .2))) in
+      let found = first-least has n 1 j (m .0) (eq-eqb (itemOf inbound j) x (m .2)) in
+      let near : first has n 1 ≤ j = ⊎-elim (λ le. le) (λ far. omega (arith, far, m .1, w .1)) found in
       let low =
       first-is-least has n 1 (λ i. Within 1 n i × (itemOf inbound i ≡ x))
       (λ i l h e. ((l, omega (arith, h)), eqb-true (itemOf inbound i) x e))
@@ -179,6 +180,12 @@ module _ (inbound : List ℕ) where
       outside e =
           let out : CarAt inbound k → ⊥ = λ car. clash (car-at k .1 car) e in
           rw e (⊎-elim (λ none. none .1) (λ at. absurd (out (at .0))), λ z. inl (out, z))
+
+  -- with a bad place, not each car is listed once
+  pub bad-not-once : (k : ℕ) → BadPlace inbound k → EachOnce inbound → ⊥
+  bad-not-once k bad once =
+      let none = none-passed (badPlace inbound) (length inbound) 2 (firstBad inbound) (firstListing inbound (firstBad inbound)) in
+      clash (bad-exactly k (bad .0) .1 bad) (none .0 (inbound-passed inbound .1 once) k (bad .0 .0) (bad .0 .1))
 
 pub inbound-right : (inbound : List ℕ) → Right (inboundAsk inbound)
 inbound-right inbound =
