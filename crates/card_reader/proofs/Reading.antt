@@ -2,7 +2,7 @@
 use Prim.Native.Nat.{ℕ, _+_, _*_, _≤_}
 use mathlib.Core.Path.{_≡_, refl, sym, ap, _∙_}
 use mathlib.Core.List.{List, [], _∷_, _++_}
-use native.Mathlib.Nat.{mul-le-mul}
+use native.Mathlib.Nat.{mul-le-mul, suc-ne-zero}
 use native.Mathlib.Omega.{arith}
 use lib.ListN.{length, take, drop, replicate}
 use lib.Seq.{take-at, drop-at, drop-drop}
@@ -16,12 +16,11 @@ use Rattle.yard.specs.Answers.{says, test, verdict, written}
 use Rattle.yard.specs.Bits.{Bytes, unpacked, bitsOf}
 use Rattle.yard.specs.Card.{layout, headWidths, listWidths, cardLength, headOn, listsOn, cardPlan, rightLength, endsRight, noHead, readerSays}
 use Rattle.yard.specs.Card.{readerVerdict, readerAnswer, judged, HeadWithin, Reads}
-use Rattle.yard.proofs.calls.Verdict.{verdict-append, verdict-passes, verdict-nested, stops-all, goes-on-all, written-accepted, written-refused}
+use Rattle.yard.proofs.calls.Verdict.{verdict-passes, stops-all, goes-on-all, last-is, written-accepted, written-refused}
 use Rattle.yard.proofs.calls.Tests.{counts-passed}
 use Rattle.yard.proofs.cards.Bits.{sum-replicate, unpacked-append}
 use Rattle.yard.proofs.cards.Card.{cardPlan-trains, cardPlan-cars, cardPlan-codes}
 use Rattle.yard.proofs.CardDemands.{reader-accepts-exactly}
-use Rattle.intake.proofs.Tests.{last-test}
 use Rattle.bits.specs.Fields.{fieldAt, fieldsAt, endsAt}
 use Rattle.bits.proofs.Places.{length-fieldsAt}
 use Rattle.format.specs.Format.{Bounded, placesOf}
@@ -113,16 +112,19 @@ module _ (bytes : List ℕ) (a b c : ℕ) {r : Answer} (head : r ≡ verdict (he
     refused-sizes fails =
         after-head (stops-all (sizeTests (length bytes) (headOn bytes) a b c) (listsAndEnd bytes (headOn bytes)) (says 0 0 0) s sizes fails)
 
-    pub lists-then-end : s .number ≡ 0
-        → verdict (verdict (nightTestsOn bytes (headOn bytes)) (says 0 0 0) ∷ []) (endTest bytes (headOn bytes)) ≡ readerVerdict limits bytes a b c
-    lists-then-end whole =
-        let h = headOn bytes in
-        let lists = nightTestsOn bytes h in
-        let last =
-        verdict-nested lists (endTest bytes h)
-        ∙ ap (verdict lists) (sym (last-test (endsAt bytes (placesOf h .end)) 12 (cardLength h) 0 refl))
-        ∙ sym (verdict-append lists (endTest bytes h ∷ []) (says 0 0 0)) in
-        after-head (goes-on-all (sizeTests (length bytes) h a b c) (listsAndEnd bytes h) (says 0 0 0) s sizes _ whole last)
+    module _ (whole : s .number ≡ 0) {t : Answer} (night : t ≡ verdict (nightTestsOn bytes (headOn bytes)) (says 0 0 0)) where
+      after-sizes : {u : Answer} → u ≡ verdict (listsAndEnd bytes (headOn bytes)) (says 0 0 0) → u ≡ readerVerdict limits bytes a b c
+      after-sizes {u} e =
+          after-head (goes-on-all (sizeTests (length bytes) (headOn bytes) a b c) (listsAndEnd bytes (headOn bytes)) (says 0 0 0) s sizes u whole e)
+
+      pub refused-lists : (t .number ≡ 0 → ⊥) → t ≡ readerVerdict limits bytes a b c
+      refused-lists fails = after-sizes (stops-all (nightTestsOn bytes (headOn bytes)) (endTest bytes (headOn bytes) ∷ []) (says 0 0 0) t night fails)
+
+      pub then-end : t .number ≡ 0 → endTest bytes (headOn bytes) ≡ readerVerdict limits bytes a b c
+      then-end listed =
+          let h = headOn bytes in
+          let last = last-is (endsAt bytes (placesOf h .end)) (says 12 (cardLength h) 0) (suc-ne-zero 11) in
+          after-sizes (goes-on-all (nightTestsOn bytes h) (endTest bytes h ∷ []) (says 0 0 0) t night (endTest bytes h) listed last)
 
 -- a head that passes is within the limits
 pub head-bounded : (size : ℕ) (h : Head) → verdict (headTests size h) (says 0 0 0) .number ≡ 0 → Bounded h

@@ -95,8 +95,10 @@ pub fn verdict(
     if second.number != 0 {
         return second;
     }
-    let at = format::places_of(head);
-    let last = intake::test(fields::ends(card, at.end), 12, format::length(head));
     let night = lists(card, head, trains, order);
-    intake::unless(night, last)
+    if night.number != 0 {
+        return night;
+    }
+    let at = format::places_of(head);
+    intake::test(fields::ends(card, at.end), 12, format::length(head))
 }

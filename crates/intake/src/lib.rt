@@ -162,6 +162,13 @@ pub fn lists(lengths: &[u16], inbound: &[u16]) -> Answer
     requires { ⌜ (length (now lengths) ≤ limits .trains) × (length (now inbound) ≤ limits .cars) ⌝ }
     ensures { λ r. ⌜ r ≡ verdict (listTests (now (lengths .entry)) (now (inbound .entry))) (says 0 0 0) ⌝ }
 {
-    let later = unless(sum(lengths, inbound.len()), self::inbound(inbound));
-    unless(trains(lengths), later)
+    let named = trains(lengths);
+    if named.number != 0 {
+        return named;
+    }
+    let added = sum(lengths, inbound.len());
+    if added.number != 0 {
+        return added;
+    }
+    self::inbound(inbound)
 }

@@ -7,9 +7,9 @@ use borrow.Author.Needs.{needs}
 use Rattle.yard.specs.Answers.{says, verdict}
 use Rattle.yard.specs.Card.{headOn}
 use Rattle.format.specs.Format.{Bounded}
-use Rattle.card_reader.specs.Reading.{headTests, sizeTests}
+use Rattle.card_reader.specs.Reading.{headTests, sizeTests, nightTestsOn}
 use Rattle.format.proofs.Widths.{end-bounded}
-use Rattle.card_reader.proofs.Reading.{head-bounded, refused-head, refused-sizes, lists-then-end}
+use Rattle.card_reader.proofs.Reading.{head-bounded, refused-head, refused-sizes, refused-lists, then-end}
 use Rattle.card_reader.proofs.verdict.Statement.{statement}
 use Rattle.card_reader.proofs.verdict.Tie as tie
 
@@ -48,38 +48,60 @@ returns-2 c =
       λ passed. absurd (c .if2 .taken passed),
     )
 
+-- the answer of the lists, for the card's own head
+third : (c : tie.After-lists)
+    → let args = c .before .before .before .before .before .before .before .before .before .before .before .before .args in
+    let bytes = now (args .card) in
+    c .lists .result ≡ verdict (nightTestsOn bytes (headOn bytes)) (says 0 0 0)
+third c =
+    let start = c .before .before .before .before .before .before .before .before .before .before .before .before in
+    rw (start .pre .0) at (c .lists .ensures .0)
+
 returns-3 : tie.Need-returns-3
 returns-3 c =
-    let listed = c .before .before .before .before .before in
-    let tested = listed .before .before .before in
-    let ended = tested .before .before in
-    let else2 = ended .before .before in
+    let listed = c .before .before .before .before .before .before in
+    let else2 = listed .before .before .before in
+    let else1 = else2 .before .before .before in
+    let args = else1 .before .before .before .before .before .before .args in (
+      refused-lists (now (args .card)) (args .lengths) (args .inbound) (args .codes) (first (else1 .before .before)) (else1 .if1 .left)
+          (second (else2 .before .before))
+          (else2 .if2 .left)
+          (third listed)
+          (c .if3 .taken),
+      λ passed. absurd (c .if3 .taken passed),
+    )
+
+returns-4 : tie.Need-returns-4
+returns-4 c =
+    let ended = c .before .before in
+    let else3 = ended .before .before in
+    let listed = else3 .before .before .before .before .before .before in
+    let else2 = listed .before .before .before in
     let else1 = else2 .before .before .before in
     let start = else1 .before .before .before .before .before .before in
     let args = start .args in (
-      rw (
-        c .unless .ensures,
-        listed .lists .ensures .0,
-        tested .test .ensures,
-        tested .before .length .ensures,
-        ended .ends .ensures,
-        ended .before .places-of .ensures,
-        start .pre .0,
-      )
-          (lists-then-end (now (args .card)) (args .lengths) (args .inbound) (args .codes) (first (else1 .before .before)) (else1 .if1 .left)
+      rw (c .test .ensures, c .before .length .ensures, ended .ends .ensures, ended .before .places-of .ensures, start .pre .0)
+          (then-end (now (args .card)) (args .lengths) (args .inbound) (args .codes) (first (else1 .before .before)) (else1 .if1 .left)
           (second (else2 .before .before))
-          (else2 .if2 .left)),
+          (else2 .if2 .left)
+          (third listed)
+          (else3 .if3 .left)),
       λ _. listed .lists .ensures .1,
     )
 
 lists-requires : tie.Need-lists-requires
 lists-requires c κs =
-    let else1 = c .before .before .before .before .before .before .before .before .before in
-    let within = bounded else1 in
+    let within = bounded (c .before .before .before .before .before) in
     (within, omega (arith, within .trains), omega (arith, within .cars))
 
+-- the counts have passed where the lists have been read
+bounded-read : (c : tie.Else3)
+    → let else1 = c .before .before .before .before .before .before .before .before .before .before .before .before in
+    Bounded (else1 .before .before .before .before .before .before .args .head)
+bounded-read c = bounded (c .before .before .before .before .before .before .before .before .before .before .before .before)
+
 ends-requires : tie.Need-ends-requires
-ends-requires c κs = rw (c .places-of .ensures) (omega (arith, end-bounded (bounded (c .before .before .before .before))))
+ends-requires c κs = rw (c .places-of .ensures) (omega (arith, end-bounded (bounded-read (c .before))))
 
 pub verdict-spec : {M : Type 1} → statement M
 verdict-spec =
@@ -89,12 +111,14 @@ verdict-spec =
     returns
     (λ c κs. bounded c)
     returns-2
-    (λ c κs. bounded (c .before .before .before))
-    ends-requires
-    (λ c κs. bounded (c .before .before .before .before .before))
-    (λ c κs. search needs)
     lists-requires
+    (λ c. search needs)
+    (λ c. search needs)
+    returns-3
+    (λ c κs. bounded-read c)
+    ends-requires
+    (λ c κs. bounded-read (c .before .before))
     (λ c κs. search needs)
     (λ c. search needs)
     (λ c. search needs)
-    returns-3)
+    returns-4)
