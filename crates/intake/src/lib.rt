@@ -162,9 +162,9 @@ pub fn lists(lengths: &[u16], inbound: &[u16]) -> Answer
     requires { ⌜ (length (now lengths) ≤ limits .trains) × (length (now inbound) ≤ limits .cars) ⌝ }
     ensures { λ r. ⌜ r ≡ verdict (listTests (now (lengths .entry)) (now (inbound .entry))) (says 0 0 0) ⌝ }
 {
-    let named = trains(lengths);
-    if named.number != 0 {
-        return named;
+    let filled = trains(lengths);
+    if filled.number != 0 {
+        return filled;
     }
     let added = sum(lengths, inbound.len());
     if added.number != 0 {

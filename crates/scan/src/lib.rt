@@ -1,4 +1,4 @@
-// One pass over a list of numbers: its sum, its largest item, and the first item that is so and so, or too large.
+// One pass over a list of numbers: its sum, its largest item, the first place of a number, and the first item that is too large.
 ghost use mathlib.Core.Path.{_≡_};
 ghost use Prim.Native.Nat.{max, _≤_};
 ghost use lib.Dec.{leb};

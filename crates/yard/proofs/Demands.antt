@@ -224,7 +224,8 @@ module _ (L : Limits) (p : Plan) (stage trackSize placeSize : ℕ) where
   pub replay-listing-exactly : (a b : ℕ)
       → (replayAnswer L p stage trackSize placeSize ≡ says 3 a b) ↔ (InboundWrong L (p .night) (p .steps) a b × Within 0 (p .steps) stage)
   replay-listing-exactly a b =
-      let wrong = opening-wrong L (p .night) (p .steps) (countAsk 6 0 (p .steps) stage ∷ []) (replayOwn p trackSize placeSize) (omega arith) (omega arith) a b in
+      let reached = countAsk 6 0 (p .steps) stage ∷ [] in
+      let wrong = opening-wrong L (p .night) (p .steps) reached (replayOwn p trackSize placeSize) (omega arith) (omega arith) a b in
       Iff·trans (replay-refuses-exactly 3 a b (omega arith)) (λ f. let (w, own) = wrong .0 f in (w, own .0), λ (w, reached). wrong .1 (w, (reached, tt)))
 
 -- ---- demand 3: the bill is the least there is
