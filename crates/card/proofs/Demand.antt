@@ -9,11 +9,15 @@ use Rattle.yard.specs.declared.Answer.{Answer}
 use Rattle.yard.specs.declared.CardAnswer.{CardAnswer}
 use Rattle.yard.specs.Limits.{limits}
 use Rattle.yard.specs.Night.{Plan}
-use Rattle.yard.specs.Answers.{says, onto, FirstFails}
+use Rattle.yard.specs.Demands.{ListedWrong, InboundWrong}
+use Rattle.yard.specs.Answers.{says, onto, AllHold, FirstFails}
+use Rattle.yard.specs.Card.{headOn, headAsks, sizeAsks}
 use Rattle.yard.specs.Card.{card, cardPlan, noHead, readerSays, judged, readerAsks, Readable, Reads, writerTests, writerAnswer, writerAsks, Writable, Writes}
 use Rattle.yard.proofs.general.Fronts.{front-taken, front-left}
 use Rattle.yard.proofs.calls.Verdict.{verdict-done, written-accepted, written-refused}
-use Rattle.yard.proofs.CardDemands.{reader-accepts-exactly, reader-refuses-exactly, writer-accepts-exactly, writer-refuses-exactly}
+use Rattle.yard.proofs.calls.Asks.{told-alike}
+use Rattle.yard.proofs.CardDemands.{reader-accepts-exactly, reader-refuses-exactly, reader-listing-exactly}
+use Rattle.yard.proofs.CardDemands.{writer-accepts-exactly, writer-refuses-exactly, writer-listing-exactly}
 use Rattle.yard.proofs.cards.CardCalls.{reader-says, reader-refused}
 
 -- ---- the reader
@@ -40,9 +44,15 @@ module _
 
     -- it refuses with k, A and B exactly if the first ask that does not hold has number k, and tells A and B
     pub read-refuses : (k a b : ℕ) → 0 < k → (told ≡ says k a b) ↔ FirstFails k a b (readerAsks limits bytes (length l) (length i) (length c))
-    read-refuses k a b pos =
-        let exactly = reader-refuses-exactly limits bytes (length l) (length i) (length c) k a b pos in
-        (λ e. exactly .0 (sym told-is ∙ e), λ h. told-is ∙ exactly .1 h)
+    read-refuses k a b pos = told-alike told-is (reader-refuses-exactly limits bytes (length l) (length i) (length c) k a b pos)
+
+    -- 3 comes exactly if head, size and buffers are right and of the card's lists the inbound one is the first at fault: A is the
+    -- first place at fault, B where its number was first listed, 0 for a number out of range
+    pub read-listing : (a b : ℕ)
+        → (told ≡ says 3 a b) ↔
+        (AllHold (headAsks limits (length bytes) (headOn bytes)) × AllHold (sizeAsks (length bytes) (headOn bytes) (length l) (length i) (length c))
+        × ListedWrong (cardPlan bytes .night .lengths) (cardPlan bytes .night .inbound) a b)
+    read-listing a b = told-alike told-is (reader-listing-exactly limits bytes (length l) (length i) (length c) a b)
 
     -- a refused call tells no number of the card, and writes nothing
     pub read-refused : (r .number ≡ 0 → ⊥) → (r ≡ readerSays told noHead) × (l₁ ≡ l) × (i₁ ≡ i) × (c₁ ≡ c)
@@ -72,9 +82,10 @@ module _ (p : Plan) (before : List ℕ) (r : Answer) (after : List ℕ) (promise
       (λ z. exactly .0 (sym same-number ∙ z), λ writable. same-number ∙ exactly .1 writable)
 
   pub write-refuses : (k a b : ℕ) → 0 < k → (r ≡ says k a b) ↔ FirstFails k a b (writerAsks limits p (length before))
-  write-refuses k a b pos =
-      let exactly = writer-refuses-exactly limits p (length before) k a b pos in
-      (λ e. exactly .0 (sym (promise .answer) ∙ e), λ h. promise .answer ∙ exactly .1 h)
+  write-refuses k a b pos = told-alike (promise .answer) (writer-refuses-exactly limits p (length before) k a b pos)
+
+  pub write-listing : (a b : ℕ) → (r ≡ says 3 a b) ↔ InboundWrong limits (p .night) (p .steps) a b
+  write-listing a b = told-alike (promise .answer) (writer-listing-exactly limits p (length before) a b)
 
   pub write-tells : r .number ≡ 0 → Written p before r after
   unfolding writerAnswer

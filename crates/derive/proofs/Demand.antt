@@ -10,13 +10,14 @@ use Rattle.yard.specs.Limits.{limits}
 use Rattle.yard.specs.Night.{Night, Plan}
 use Rattle.yard.specs.Replay.{yardAt, pullSize}
 use Rattle.yard.specs.Derived.{derivedCodes, derivedPlan}
-use Rattle.yard.specs.Demands.{Least, HasRoom, Sorts, Sortable, OverfullStep}
+use Rattle.yard.specs.Demands.{Least, InboundWrong, HasRoom, Sorts, Sortable, OverfullStep}
 use Rattle.yard.specs.Answers.{says, onto, FirstFails}
 use Rattle.yard.specs.Calls.{deriveAsks, deriveAnswer, DeriveGiven, Derivable, Derives}
 use Rattle.yard.proofs.general.Fronts.{front-taken, front-left}
 use Rattle.yard.proofs.calls.Verdict.{written-accepted, written-refused}
 use Rattle.yard.proofs.Demands.{LeastPlan, derive-accepts-exactly, derive-refuses-exactly}
-use Rattle.yard.proofs.Demands.{derive-least, derive-limit-exactly, derive-room-exactly}
+use Rattle.yard.proofs.calls.Asks.{told-alike}
+use Rattle.yard.proofs.Demands.{derive-listing-exactly, derive-least, derive-limit-exactly, derive-room-exactly}
 
 -- the plan that the caller is told: the steps answered, and the first n items of the buffer
 abbrev pub told : Night → Answer → List ℕ → Plan
@@ -82,15 +83,16 @@ module _ (n : Night) (limit : ℕ) (before : List ℕ) (r : Answer) (after : Lis
 
   -- it refuses with k, A and B exactly if the first ask that does not hold has number k, and tells A and B
   pub call-refuses : (k a b : ℕ) → 0 < k → (r ≡ says k a b) ↔ FirstFails k a b (deriveAsks limits n limit (length before))
-  call-refuses k a b pos =
-      let exactly = derive-refuses-exactly limits n limit (length before) k a b pos in
-      (λ e. exactly .0 (sym (promise .answer) ∙ e), λ h. promise .answer ∙ exactly .1 h)
+  call-refuses k a b pos = told-alike (promise .answer) (derive-refuses-exactly limits n limit (length before) k a b pos)
+
+  -- 3 comes exactly if the counts are well formed and the inbound list is the first thing at fault: A is the first place at fault, B
+  -- where its number was first listed, 0 for a number out of range
+  pub call-listing : (a b : ℕ) → (r ≡ says 3 a b) ↔ InboundWrong limits n limit a b
+  call-listing a b = told-alike (promise .answer) (derive-listing-exactly limits n limit (length before) a b)
 
   -- a limit is refused exactly if no plan that builds the trains keeps to it, whatever its codes
   pub call-limit : (a b : ℕ) → (r ≡ says 5 a b) ↔ (DeriveGiven limits n limit (length before) × (Sortable n limit → ⊥) × Least (Sortable n) a × (b ≡ 0))
-  call-limit a b =
-      let exactly = derive-limit-exactly limits n limit (length before) a b in
-      (λ e. exactly .0 (sym (promise .answer) ∙ e), λ h. promise .answer ∙ exactly .1 h)
+  call-limit a b = told-alike (promise .answer) (derive-limit-exactly limits n limit (length before) a b)
 
   -- then every plan that builds the trains has at least A steps, and one has exactly A
   pub call-limit-least : (a b : ℕ) → r ≡ says 5 a b
@@ -117,9 +119,7 @@ module _ (n : Night) (limit : ℕ) (before : List ℕ) (r : Answer) (after : Lis
   -- room is refused exactly if the derived plan overfills a track: A is the first step that does, B what it finds there
   pub call-room : (a b : ℕ) → (r ≡ says 6 a b) ↔ (DeriveGiven limits n limit (length before) × Sortable n limit × Least
       (OverfullStep (derivedPlan n)) a × (b ≡ pullSize (derivedPlan n) a))
-  call-room a b =
-      let exactly = derive-room-exactly limits n limit (length before) a b in
-      (λ e. exactly .0 (sym (promise .answer) ∙ e), λ h. promise .answer ∙ exactly .1 h)
+  call-room a b = told-alike (promise .answer) (derive-room-exactly limits n limit (length before) a b)
 
   -- a refused call writes nothing
   pub call-refused : (r .number ≡ 0 → ⊥) → after ≡ before

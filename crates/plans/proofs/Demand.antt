@@ -11,7 +11,7 @@ use Rattle.yard.specs.Limits.{limits}
 use Rattle.yard.specs.Words.{most, upFrom}
 use Rattle.yard.specs.Night.{Plan, cars, itemOf}
 use Rattle.yard.specs.Replay.{yardAt, pullSize, fullestPull, trackOf, placeOf}
-use Rattle.yard.specs.Demands.{Within}
+use Rattle.yard.specs.Demands.{Within, InboundWrong}
 use Rattle.yard.specs.Answers.{says, onto, FirstFails}
 use Rattle.yard.specs.Calls.{checkAsks, Checks, GoodPlan, replayAsks, replayAnswer, Replays, Replayable, carTracks, carPlaces}
 use Rattle.yard.proofs.general.Fronts.{front-taken, front-left}
@@ -20,7 +20,9 @@ use Rattle.yard.proofs.general.Lists.{count-upFrom-in, upFrom-bounds, length-up
 use Rattle.yard.proofs.yards.Trains.{most-above, most-reached}
 use Rattle.yard.proofs.yards.DerivedPlan.{by-car, length-by-car}
 use Rattle.yard.proofs.yards.PlanYard.{one-place}
-use Rattle.yard.proofs.Demands.{check-accepts-exactly, check-refuses-exactly, check-reports, replay-accepts-exactly, replay-refuses-exactly, replay-reports}
+use Rattle.yard.proofs.calls.Asks.{told-alike}
+use Rattle.yard.proofs.Demands.{check-accepts-exactly, check-refuses-exactly, check-listing-exactly, check-reports}
+use Rattle.yard.proofs.Demands.{replay-accepts-exactly, replay-refuses-exactly, replay-listing-exactly, replay-reports}
 
 -- ---- check
 
@@ -45,9 +47,12 @@ module _ (p : Plan) (r : Answer) (promise : Checks p r) where
 
   -- it refuses with k, A and B exactly if the first ask that does not hold has number k, and tells A and B
   pub check-refuses : (k a b : ℕ) → 0 < k → (r ≡ says k a b) ↔ FirstFails k a b (checkAsks limits p)
-  check-refuses k a b pos =
-      let exactly = check-refuses-exactly limits p k a b pos in
-      (λ e. exactly .0 (sym (promise .answer) ∙ e), λ h. promise .answer ∙ exactly .1 h)
+  check-refuses k a b pos = told-alike (promise .answer) (check-refuses-exactly limits p k a b pos)
+
+  -- 3 comes exactly if the counts are well formed and the inbound list is the first thing at fault: A is the first place at fault, B
+  -- where its number was first listed, 0 for a number out of range
+  pub check-listing : (a b : ℕ) → (r ≡ says 3 a b) ↔ InboundWrong limits (p .night) (p .steps) a b
+  check-listing a b = told-alike (promise .answer) (check-listing-exactly limits p a b)
 
   pub check-tells : r .number ≡ 0 → Checked p r
   unfolding fullestPull
@@ -110,9 +115,10 @@ module _ (p : Plan) (stage : ℕ) (tracks₀ places₀ : List ℕ) (r : Answer) 
       (λ z. exactly .0 (sym same-number ∙ z), λ able. same-number ∙ exactly .1 able)
 
   pub replay-refuses : (k a b : ℕ) → 0 < k → (r ≡ says k a b) ↔ FirstFails k a b (replayAsks limits p stage (length tracks₀) (length places₀))
-  replay-refuses k a b pos =
-      let exactly = replay-refuses-exactly limits p stage (length tracks₀) (length places₀) k a b pos in
-      (λ e. exactly .0 (sym (promise .answer) ∙ e), λ h. promise .answer ∙ exactly .1 h)
+  replay-refuses k a b pos = told-alike (promise .answer) (replay-refuses-exactly limits p stage (length tracks₀) (length places₀) k a b pos)
+
+  pub replay-listing : (a b : ℕ) → (r ≡ says 3 a b) ↔ (InboundWrong limits (p .night) (p .steps) a b × Within 0 (p .steps) stage)
+  replay-listing a b = told-alike (promise .answer) (replay-listing-exactly limits p stage (length tracks₀) (length places₀) a b)
 
   -- a refused call writes nothing
   pub replay-refused : (r .number ≡ 0 → ⊥) → (tracks₁ ≡ tracks₀) × (places₁ ≡ places₀)

@@ -44,6 +44,10 @@ sound-append (q ∷ xs) ys s more = (s .0, λ h. sound-append xs ys (s .1 h) (λ
 pub answer-of : {k l a b c d : ℕ} → k ≡ l → a ≡ c → b ≡ d → says k a b ≡ says l c d
 answer-of {l = l} {a = a} {b = b} e f g = ap (λ (x : ℕ). says x a b) e ∙ ap₂ (λ (x y : ℕ). says l x y) f g
 
+-- what is said of an answer holds of one that is the same
+pub told-alike : {r s x : Answer} {P : Type 0} → r ≡ s → ((s ≡ x) ↔ P) → (r ≡ x) ↔ P
+told-alike same exactly = (λ e. exactly .0 (sym same ∙ e), λ h. same ∙ exactly .1 h)
+
 -- an ask that is refused is the verdict
 refused : (q : Ask) (asks : List Ask) (done : Answer) → Right q → verdict (says (q .number) (q .a) (q .b) ∷ answers asks) done ≡ says (q .number) (q .a) (q .b)
 refused q asks done right = verdict-refused (says (q .number) (q .a) (q .b)) (answers asks) done (right .named)
