@@ -4,7 +4,7 @@ use mathlib.Core.Logic.{_⊎_, inl, inr}
 use mathlib.Core.Bool.{Bool, true, false}
 use mathlib.Core.List.{List, [], _∷_, _++_}
 use Prim.Native.Nat.{ℕ, _+_, _≤_, _<_}
-use native.Mathlib.Nat.{le-refl}
+use native.Mathlib.Nat.{le-refl, suc-ne-zero}
 use native.Mathlib.Omega.{arith}
 use lib.Dec.{leb, ltb}
 use lib.ListN.{length, drop}
@@ -19,12 +19,11 @@ use Rattle.yard.specs.Calls.{nightCounts, nightTests, deriveAnswer, DeriveGiven
 use Rattle.yard.specs.Demands.{Listed}
 use Rattle.yard.proofs.general.Numbers.{le-or-lt}
 use Rattle.yard.proofs.general.First.{first-same}
-use Rattle.yard.proofs.calls.Verdict.{Passed, passed-append, verdict-append, verdict-nested, verdict-passes, stops-all, goes-on-all, written-refused}
+use Rattle.yard.proofs.calls.Verdict.{Passed, passed-append, verdict-append, verdict-nested, verdict-passes, stops-all, goes-on-all, last-is, written-refused}
 use Rattle.yard.proofs.calls.Tests.{counts-passed, list-passed}
 use Rattle.yard.proofs.yards.Formed.{lists-passed}
 use Rattle.yard.proofs.yards.DerivedPlan.{derived-length, derived-sorts}
 use Rattle.yard.proofs.yards.PlanYard.{passes-codes, pullSize-codes}
-use Rattle.intake.proofs.Tests.{last-test}
 use Rattle.sorting.specs.Sums.{pullOf, setBelow, above, firstAbove}
 use Rattle.derive.specs.Plans.{openTests, settled, Settles, planned, Planned}
 
@@ -131,10 +130,11 @@ module _ (n : Night) (limit size : ℕ) {counted : Answer} (is : counted ≡ ver
       r ≡ verdict (openTests n limit size) (says 0 0 0)
   given-lists {r} z e =
       let buffer : Answer = listTest 3 (leb (length (n .inbound)) size) in
+      let last = last-is (leb (length (n .inbound)) size) (says 4 3 0) (suc-ne-zero 3) in
       goes-on-all (nightCounts limits n limit) (behind-counts n size) (says 0 0 0) counted is r z
       (e ∙
       (verdict-nested (nightTests n) buffer ∙
-      sym (verdict-append (nightTests n) (buffer ∷ []) (says 0 0 0) ∙ ap (verdict (nightTests n)) (last-test (leb (length (n .inbound)) size) 4 3 0 refl))))
+      (ap (verdict (nightTests n)) last ∙ sym (verdict-append (nightTests n) (buffer ∷ []) (says 0 0 0)))))
 
 -- the answer of those tests: refused, it is that of derive; passed, the plan answers
 module _ (n : Night) (limit : ℕ) (before : List ℕ) {given : Answer} (is : given ≡ verdict (openTests n limit (length before)) (says 0 0 0)) where

@@ -64,7 +64,8 @@ abbrev pub FirstFails : ℕ → ℕ → ℕ → List Ask → Type 0
 FirstFails k a b [] = ⊥
 FirstFails k a b (q ∷ asks) = ((q .asked → ⊥) × (q .number ≡ k) × q .told a b) ⊎ (q .asked × FirstFails k a b asks)
 
--- an ask whose A is one number and nothing more; one whose A is the least such and such, with a B that is so and so for it, or 0
+-- an ask whose A is one number and nothing more; one whose A is the least such and such, and of whose B something is said for that
+-- A; the same with nothing for B
 abbrev pub plain : ℕ → Bool → ℕ → Type 0 → Ask
 plain number passed a asked =
     record { number = number; passed = passed; a = a; b = 0; asked = asked; told = λ x y. (x ≡ a) × (y ≡ 0) }

@@ -1,8 +1,10 @@
 -- The proof of `size_tests`: each answer is that of the test before those that come later.
-use mathlib.Core.Path.{refl}
+use mathlib.Core.Path.{sym}
+use native.Mathlib.Nat.{suc-ne-zero}
 use lib.Dec.{leb}
 use borrow.Author.Needs.{needs}
-use Rattle.intake.proofs.Tests.{last-test}
+use Rattle.yard.specs.Answers.{says}
+use Rattle.yard.proofs.calls.Verdict.{last-is}
 use Rattle.card_reader.proofs.size_tests.Statement.{statement}
 use Rattle.card_reader.proofs.size_tests.Tie as tie
 
@@ -19,7 +21,7 @@ returns c =
       inner .before .list2 .ensures,
       inner .before .before .before .list .ensures,
       inner .before .before .before .before .before .length .ensures,
-      last-test (leb (args .head .cars) (args .codes)) 4 3 0 refl,
+      sym (last-is (leb (args .head .cars) (args .codes)) (says 4 3 0) (suc-ne-zero 3)),
     )
 
 pub size-tests-spec : {M : Type 1} → statement M

@@ -1,16 +1,17 @@
 -- The proof of `counts`: each answer is that of the test before those that come later. No callee asks anything.
-use mathlib.Core.Path.{refl}
 use mathlib.Core.Bool.{_&&_}
+use native.Mathlib.Nat.{suc-ne-zero}
 use lib.Dec.{leb}
 use Rattle.yard.specs.Limits.{limits}
-use Rattle.intake.proofs.Tests.{last-test}
+use Rattle.yard.specs.Answers.{says}
+use Rattle.yard.proofs.calls.Verdict.{last-is}
 use Rattle.intake.proofs.counts.Statement.{statement}
 use Rattle.intake.proofs.counts.Tie as tie
 
 returns : tie.Need-returns
 returns c =
     let steps = c .before .before .before .before .before .before .before .before .before .args .steps in
-    cc (last-test (leb 0 steps && leb steps (limits .steps)) 1 5 0 refl)
+    cc (last-is (leb 0 steps && leb steps (limits .steps)) (says 1 5 0) (suc-ne-zero 0))
 
 pub counts-spec : {M : Type 1} → statement M
 counts-spec =
