@@ -1,11 +1,11 @@
 #!/usr/bin/env bash
-# Runs measure with the library in four places, twice in each: where it is placed in the program moves a row by a tenth.
-# Prints each row in the middle of the eight runs, with the least and the most of its ratio. No part of the gate.
+# Runs measure with the library in four places and the idiomatic program in three: where either is placed moves a row by a tenth.
+# Prints each row in the middle of the twelve runs, with the least and the most of its ratio. No part of the gate.
 set -euo pipefail
 cd "$(dirname "$0")/.."
 folder=$(mktemp -d)
 trap 'rm -rf "$folder"' EXIT
-export ALTAIRPEG_ARCHIVE="$folder/libaltairpeg.a" CARGO_TARGET_DIR="$PWD/second/target/places"
+export ALTAIRPEG_ARCHIVE="$folder/libaltairpeg.a"
 
 # The archive with its code some bytes further on; R keeps the bytes, although nothing calls them.
 moved() { # BYTES
@@ -17,10 +17,14 @@ moved() { # BYTES
     ar rc "$ALTAIRPEG_ARCHIVE" "$folder/altairpeg.o"
 }
 
-for bytes in 0 16 32 48 0 16 32 48; do
+for bytes in 0 16 32 48; do
     moved "$bytes"
-    cargo build --release --quiet --features library --manifest-path second/Cargo.toml --bin measure
-    "$CARGO_TARGET_DIR/release/measure" | grep -E '^\| [a-z]+ \| [0-9]+ \|' | awk -F' *[|] *' '{print NR, $2, $3, $6, $7, $8}'
+    for bits in 4 5 6; do
+        # The functions of the idiomatic program begin at multiples of 16, 32 or 64 bytes.
+        export CARGO_TARGET_DIR="$PWD/second/target/places/$bits" RUSTFLAGS="-C llvm-args=-align-all-functions=$bits"
+        cargo build --release --quiet --features library --manifest-path second/Cargo.toml --bin measure
+        "$CARGO_TARGET_DIR/release/measure" | grep -E '^\| [a-z]+ \| [0-9]+ \|' | awk -F' *[|] *' '{print NR, $2, $3, $6, $7, $8}'
+    done
 done | sort -n -k1,1 -k6,6 | awk '
     BEGIN { print "| call | cars | library ns/car | idiomatic ns/car | library/idiomatic | least | most |\n|---|---|---|---|---|---|---|" }
     function row() { if (n) printf "| %s | %s | %.2f | %.2f | %.2f | %.2f | %.2f |\n", name, cars, library, idiomatic, (all[int((n + 1) / 2)] + all[int(n / 2) + 1]) / 2, all[1], all[n] }

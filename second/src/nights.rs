@@ -137,7 +137,7 @@ fn any_inbound(random: &mut Random, cars: usize) -> Vec<u16> {
     }
 }
 
-fn shuffled(random: &mut Random, mut cars: Vec<u16>) -> Vec<u16> {
+pub fn shuffled(random: &mut Random, mut cars: Vec<u16>) -> Vec<u16> {
     random.shuffle(&mut cars);
     cars
 }

@@ -6,8 +6,8 @@ use crate::harness::{
 };
 use crate::nights::{
     any_card, any_night, any_plan, any_timings, code_lists, damage_codes, damage_night,
-    derived_plan, orders, tight_room, train_lengths, trial_nights, whole_card, wild_count,
-    OwnNight, OwnPlan,
+    derived_plan, orders, shuffled, tight_room, train_lengths, trial_nights, whole_card,
+    wild_count, OwnNight, OwnPlan,
 };
 use crate::random::Random;
 use crate::reference::{card_length, CardBuffers};
@@ -206,6 +206,42 @@ pub fn small_nights<C: Calls>(tally: &mut Tally, most_cars: u16) -> Result<(), S
         }
     }
     Ok(())
+}
+
+/// Lists with one number changed: each place of the short ones and some of the long ones, to every number up to
+/// twice the most cars and some far beyond, so that a number taken for another one is found. Without codes, check
+/// goes as far as the lists.
+pub fn changed_numbers<C: Calls>(tally: &mut Tally) -> Result<(), String> {
+    let mut random = Random::new(0, 2);
+    for cars in [1, 2, 7, 8, 9, 63, 64, 65, 127, 128, 511, 512] {
+        let mut plan = OwnPlan {
+            night: OwnNight {
+                lengths: vec![cars],
+                inbound: shuffled(&mut random, (1..=cars).collect()),
+                tracks: 1,
+                room: 512,
+            },
+            steps: 0,
+            codes: vec![],
+        };
+        for place in changed_places(usize::from(cars)) {
+            let car = plan.night.inbound[place];
+            for number in (0..=1040).chain([4096, 32768, u16::MAX]) {
+                plan.night.inbound[place] = number;
+                compare_check::<C>(&mut random, tally, plan.lend())?;
+            }
+            plan.night.inbound[place] = car;
+        }
+    }
+    Ok(())
+}
+
+fn changed_places(cars: usize) -> Vec<usize> {
+    if cars <= 65 {
+        (0..cars).collect()
+    } else {
+        vec![0, 1, 62, 63, 64, 65, cars / 2, cars - 2, cars - 1]
+    }
 }
 
 /// Derive, and all plans of up to two steps through check and replay.

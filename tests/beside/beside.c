@@ -1,62 +1,15 @@
 /* Measures this edition of the library beside an earlier one, in one program and on the same nights. */
-#include "night.h"
+#include "nights.h"
 #include <stdio.h>
 #include <stdlib.h>
-#include <string.h>
 #include <time.h>
 
 extern calls_of_a_night *const before_calls[CALLS];
 
 enum { NIGHTS = 128, ROUNDS = 501 };
-static const char *const NAMES[CALLS] = {"derive", "check", "replay", "read", "write"};
 static const size_t SIZES[] = {8, 64, 512};
 
 static struct night nights[NIGHTS];
-static uint64_t state = 88172645463325252u;
-
-/* A number below a bound, the same in each run. */
-static size_t below(size_t bound) {
-    state ^= state << 13;
-    state ^= state >> 7;
-    state ^= state << 17;
-    return (size_t)((state >> 11) % bound);
-}
-
-static void shuffle(uint16_t *list, size_t n) {
-    for (size_t i = n - 1; i > 0; i--) {
-        size_t j = below(i + 1);
-        uint16_t item = list[i];
-        list[i] = list[j];
-        list[j] = item;
-    }
-}
-
-/* A night of up to eight trains on three to eight tracks; nothing says yet that eight steps do. */
-static void any_night(struct night *n, size_t cars) {
-    memset(n, 0, sizeof *n);
-    n->cars = cars;
-    n->trains = 1 + below(8);
-    n->tracks = 3 + below(6);
-    n->room = CARS;
-    for (size_t i = 0; i < cars; i++) {
-        n->lengths[i < n->trains ? i : below(n->trains)]++;
-        n->inbound[i] = (uint16_t)(i + 1);
-    }
-    shuffle(n->inbound, cars);
-}
-
-/* Its derived plan and that plan's card, or 0 where a call refuses. */
-static int planned(struct night *n) {
-    struct told derived = calls[DERIVE](n);
-    if (derived.number != 0) return 0;
-    memcpy(n->codes, n->codes_out, sizeof n->codes);
-    n->steps = derived.a;
-    n->stage = below(n->steps + 1);
-    struct told written = calls[WRITE](n);
-    memcpy(n->card, n->card_out, sizeof n->card);
-    n->card_len = written.a;
-    return written.number == 0 && calls[CHECK](n).number == 0;
-}
 
 static double nanoseconds(void) {
     struct timespec now;
@@ -100,10 +53,9 @@ static void row(int call, size_t cars) {
 
 int main(void) {
     for (size_t s = 0; s < sizeof SIZES / sizeof *SIZES; s++) {
-        for (size_t i = 0; i < NIGHTS; i++)
-            do any_night(&nights[i], SIZES[s]);
-            while (!planned(&nights[i]));
-        for (int call = 0; call < CALLS; call++) row(call, SIZES[s]);
+        for (size_t i = 0; i < NIGHTS; i++) planned_night(&nights[i], SIZES[s]);
+        for (int call = 0; call < CALLS; call++)
+            if (before_calls[call]) row(call, SIZES[s]);
     }
     return 0;
 }

@@ -4,7 +4,7 @@
 #include <stddef.h>
 #include <stdint.h>
 
-enum { CARS = 512, TRAINS = 64, CARD = 1237, CALLS = 5 };
+enum { CARS = 512, TRAINS = 64, CARD = 1237, CALLS = 6 };
 
 struct night {
     size_t cars, trains, tracks, room, steps, stage, card_len;
@@ -22,7 +22,7 @@ struct told {
 
 typedef struct told calls_of_a_night(struct night *);
 
-/* derive, check, replay, read, write */
-enum { DERIVE, CHECK, REPLAY, READ, WRITE };
+/* A call that an edition lacks is NULL, and is not measured. */
+enum { DERIVE, CHECK, REPLAY, READ, WRITE, LISTS };
 extern calls_of_a_night *const calls[CALLS];
 #endif

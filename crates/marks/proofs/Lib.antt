@@ -1,2 +1,3 @@
 -- The laws on which the proofs of this crate rest.
+pub mod Word
 pub mod Marks

@@ -8,7 +8,7 @@ use second::idiomatic::Idiomatic;
 use second::library::Library;
 use second::random::Random;
 use second::tally::Tally;
-use second::trials::{paper_nights, small_nights, table_trial, trial, Bench};
+use second::trials::{changed_numbers, paper_nights, small_nights, table_trial, trial, Bench};
 use second::Calls;
 use std::env;
 use std::process::ExitCode;
@@ -78,7 +78,8 @@ fn compare<C: Calls>(run: Run, tally: &mut Tally) -> Result<(), String> {
     table_trial::<C>(tally)?;
     paper_nights::<C>(tally)?;
     small_nights::<C>(tally, SMALL_CARS)?;
-    report_progress::<C>("small nights", tally, began);
+    changed_numbers::<C>(tally)?;
+    report_progress::<C>("small nights and changed numbers", tally, began);
     let every = (run.count / 10).max(1);
     for number in 0..run.count {
         one_trial::<C>(run.seed, run.first.unwrap_or(0) + number, tally)?;

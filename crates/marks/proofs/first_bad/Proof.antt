@@ -1,84 +1,68 @@
--- The proof of `first_bad`: the marks are those of the cars met, and what is left of the search finds what the whole search finds.
+-- The proof of `first_bad`: none of the places looked at so far is bad, and each look says that of one more.
 use borrow.Author.Needs.{needs}
-use mathlib.Core.Path.{_≡_, refl, sym, _∙_}
+use mathlib.Core.Path.{_≡_, refl}
 use denote.Ref.{now}
-use Prim.Native.Nat.{suc, _+_, _-_, _≤_, zero-le}
-use Rattle.yard.specs.Words.{first}
+use Prim.Native.Nat.{_-_, _/_, _≤_, zero-le}
 use native.Mathlib.Omega.{arith}
 use lib.ListN.{length}
 use Rattle.yard.specs.Limits.{limits}
-use Rattle.yard.specs.Answers.{badPlace, firstBad}
-use Rattle.scan.proofs.Left.{left-start, place-hits, place-goes, place-ends}
-use Rattle.marks.specs.Marks.{markable}
-use Rattle.marks.proofs.Marks.{Met, markable-fresh, met-none, met-next, fit-between, bad-here}
+use Rattle.marks.specs.Marks.{Sought}
+use Rattle.marks.proofs.Marks.{nothing-sought, all-looked}
 use Rattle.marks.proofs.first_bad.Statement.{statement}
 use Rattle.marks.proofs.first_bad.Tie as tie
 
 abbrev Inv-loop : tie.InvT-loop
-Inv-loop inbound marks₀ i₀ i-end marks i =
-    (i ≤ length inbound)
-    × (length marks ≡ length marks₀)
-    × (markable marks ≡ limits .cars)
-    × Met inbound marks i
-    × (first (badPlace inbound) (length inbound - i) (i + 1) ≡ firstBad inbound)
+Inv-loop inbound cars marks₀ i₀ marks i = (length marks ≡ length marks₀) × (i ≤ cars) × Sought inbound marks i
 
 abbrev μ-loop : tie.MeasureT-loop
-μ-loop inbound marks₀ i₀ i-end marks i = length inbound - i
+μ-loop inbound cars marks₀ i₀ marks i = cars - i
 
 loop-holds : tie.Need-loop-holds Inv-loop μ-loop
 loop-holds c =
-    let inbound = now (c .before .args .inbound) in
-    (zero-le, refl, markable-fresh (limits .cars), met-none inbound (limits .cars), left-start (badPlace inbound) (length inbound) 1)
+    let at-start = c .before .before in
+    (refl, zero-le, nothing-sought (now (at-start .args .inbound)) (limits .cars / 64) (at-start .pre))
 
-cast-car : tie.Need-cast-car Inv-loop μ-loop
-cast-car c = omega (arith, c .shared-slice-known2 .given (c .before .before .loop .i))
+again-requires : tie.Need-again-requires Inv-loop μ-loop
+again-requires c κs =
+    let at-loop = c .before .before in
+    let cars = at-loop .before .leading .ensures in
+    let test = c .before .loop-test .taken in
+    (omega (arith, test, cars .within), cars .cars _ (omega (arith, test)), at-loop .loop .inv .2)
 
-slice-aggregate-unfit : tie.Need-slice-aggregate-unfit Inv-loop μ-loop
-slice-aggregate-unfit c = sym (c .before .before .before .loop .inv .1)
-
-unfit-requires : tie.Need-unfit-requires Inv-loop μ-loop
-unfit-requires c κs = omega arith
-
--- the place at hand is bad if its car is unfit
-place-unfit : (c : tie.After-unfit Inv-loop μ-loop)
-    → badPlace (now (c .before .before .before .before .before .before .args .inbound)) (suc (c .before .before .before .before .loop .i)) ≡ c .unfit .result
-place-unfit c =
-    let at-loop = c .before .before .before .before in
-    bad-here (now (at-loop .before .before .args .inbound)) (at-loop .loop .marks) (at-loop .loop .i) (at-loop .loop .inv .3)
-    ∙ sym (c .unfit .ensures)
-
-returns : tie.Need-returns Inv-loop μ-loop
-returns c =
-    let at-test = c .before .before .before .before in
-    place-hits _ _ _ _ (at-test .before .loop .inv .4) (at-test .loop-test .taken) (place-unfit (c .before) ∙ c .if1 .taken)
-
-slice-aggregate-mark : tie.Need-slice-aggregate-mark Inv-loop μ-loop
-slice-aggregate-mark c = sym (c .before .before .before .before .before .before .loop .inv .1)
-
-mark-requires : tie.Need-mark-requires Inv-loop μ-loop
-mark-requires c κs =
-    let known = c .before .before .before .before .before .before .loop .inv in
-    let fit = fit-between _ _ _ (sym (c .before .before .unfit .ensures) ∙ c .before .if1 .left) in
-    (fit .0, omega arith)
+again-requires-2 : tie.Need-again-requires-2 Inv-loop μ-loop
+again-requires-2 c κs =
+    let at-test = c .before .before .before .before .before in
+    let cars = at-test .before .before .leading .ensures in
+    let test = at-test .loop-test .taken in
+    (omega (arith, test, cars .within), cars .cars _ test, c .before .before .before .again .ensures .on (c .before .if1 .left))
 
 loop-again : tie.Need-loop-again Inv-loop μ-loop
 loop-again c =
-    let at-else = c .before .before .before in
-    let at-test = at-else .before .before .before .before in
-    let known = at-test .before .loop .inv in (
-      omega arith,
-      search needs,
-      c .before .mark .ensures .room ∙ known .2,
-      met-next _ _ _ (known .3) (at-test .loop-test .taken) (c .before .mark .ensures),
-      place-goes _ _ _ _ (known .4) (at-test .loop-test .taken) (place-unfit (at-else .before) ∙ at-else .if1 .left),
-    )
+    let at-test = c .before .before .before .before .before .before .before .before in
+    (search needs, omega (arith, at-test .loop-test .taken), c .before .before .again2 .ensures .on (c .if2 .left))
 
-returns-2 : tie.Need-returns-2 Inv-loop μ-loop
-returns-2 c = place-ends _ _ _ _ (c .before .loop .inv .4) (c .loop-test .left) (c .before .loop .inv .0)
+returns-3 : tie.Need-returns-3 Inv-loop μ-loop
+returns-3 c =
+    let at-loop = c .before .before in
+    all-looked _ _ _ (at-loop .loop .inv .2) _ (at-loop .before .leading .ensures) (c .if3 .taken) (at-loop .loop .inv .1)
+
+again-requires-3 : tie.Need-again-requires-3 Inv-loop μ-loop
+again-requires-3 c κs =
+    let at-loop = c .before .before .before in
+    let cars = at-loop .before .leading .ensures in
+    (omega (arith, c .before .if3 .left, cars .within), cars .cars _ (c .before .if3 .left), at-loop .loop .inv .2)
+
+returns-5 : tie.Need-returns-5 Inv-loop μ-loop
+returns-5 c =
+    let at-else = c .before .before .before .before in
+    let cars = at-else .before .before .before .leading .ensures in
+    all-looked _ _ _ (c .before .before .again3 .ensures .on (c .if4 .left)) _ cars (omega (arith, at-else .before .loop-test .left)) (omega (arith, at-else .if3 .left))
 
 pub first-bad-spec : {M : Type 1} → statement M
 first-bad-spec =
     tie.close
     (tie.spec
-    Inv-loop μ-loop loop-holds (λ c. omega arith) (λ c. omega arith) cast-car slice-aggregate-unfit unfit-requires (λ c. omega arith) returns
-    slice-aggregate-mark mark-requires (λ c. omega arith) (λ c. omega arith) loop-again (λ c. omega arith) returns-2)
+    Inv-loop μ-loop (λ c κs. c .before .pre) loop-holds (λ c. omega arith) (λ c. search needs) again-requires (λ c. omega arith)
+    (λ c. c .before .before .again .ensures .found (c .if1 .taken)) (λ c. omega arith) (λ c. search needs) again-requires-2 (λ c. omega arith)
+    (λ c. c .before .before .again2 .ensures .found (c .if2 .taken)) (λ c. omega arith) (λ c. omega arith) loop-again (λ c. omega arith) returns-3
+    (λ c. search needs) again-requires-3 (λ c. omega arith) (λ c. c .before .before .again3 .ensures .found (c .if4 .taken)) (λ c. omega arith) returns-5)

@@ -1,0 +1,12 @@
+#!/usr/bin/env bash
+# Measures the stack that the calls take: stack.sh [CHECKOUT], of this edition or of another one, as run.sh has it. No part of the gate.
+set -euo pipefail
+cd "$(dirname "$0")/../.."
+edition=${1:-.}
+folder=$(mktemp -d)
+trap 'rm -rf "$folder"' EXIT
+gcc -O2 -Wall -Wextra -I "$edition/include" -I tests/beside -o "$folder/stack" \
+    tests/beside/stack.c "$edition/tests/beside/calls.c" "$edition/target/staticlib/libaltairpeg.a"
+echo '| call | bytes of stack |'
+echo '|---|---|'
+"$folder/stack"
