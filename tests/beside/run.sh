@@ -15,7 +15,8 @@ edition() { # CHECKOUT NAME
     objcopy --redefine-sym calls="$2" "$folder/$2.o"
 }
 
-# Where an edition is placed in the program moves a row by a tenth, so each row is measured in eight placements of the two.
+# Where an edition is placed in the program, and where the system lays the stack, moves a row by a tenth, so each row is measured in eight
+# placements of the two, three times in each.
 skipped() { # BYTES
     echo '.section .note.GNU-stack; .text; .balign 64; .zero 64'
     if [ "$1" -gt 0 ]; then echo ".zero $1"; fi
@@ -29,7 +30,9 @@ for skip in "0 0" "16 0" "32 0" "48 0" "0 16" "16 32" "32 48" "48 16"; do
     skipped "$second" > "$folder/second.s"
     gcc -O2 -Wall -Wextra -o "$folder/beside" tests/beside/beside.c \
         "$folder/first.s" "$folder/before_calls.o" "$folder/second.s" "$folder/calls.o"
-    "$folder/beside" | awk '{print NR, $0}'
+    for run in 1 2 3; do
+        "$folder/beside" | awk '{print NR, $0}'
+    done
 done | sort -n -k1,1 -k4,4 | awk '
     BEGIN { print "| call | cars | now/before | least | most |\n|---|---|---|---|---|" }
     function row() { if (n) printf "| %s | %s | %.2f | %.2f | %.2f |\n", name, cars, (all[int((n + 1) / 2)] + all[int(n / 2) + 1]) / 2, all[1], all[n] }

@@ -1,7 +1,7 @@
 -- Laws of the marks, over any number of words: at first no car is marked, and marking a car as it comes keeps the marks at the cars listed so far.
 use mathlib.Core.Path.{_≡_, refl, sym, ap, ap₂, _∙_}
 use mathlib.Core.Logic.{_⊎_, inl, inr, ⊎-elim}
-use mathlib.Core.Bool.{Bool, true, false, _&&_, _||_, and-assoc, and-true}
+use mathlib.Core.Bool.{Bool, true, false, _&&_, _||_, true≢false, and-assoc, and-true}
 use mathlib.Core.List.{List, [], _∷_}
 use Prim.Native.Nat.{ℕ, zero, suc, _+_, _-_, _*_, _/_, _%_, _^_, _≤_, _<_}
 use native.Mathlib.Nat.{add-zero, mod-lt, mod-self, mod-eq-of-lt, eq-or-lt-of-le, zero-div}
@@ -20,9 +20,9 @@ use Rattle.yard.proofs.general.Bools.{split, same-test, and-left, and-right}
 use Rattle.yard.proofs.general.Numbers.{le-or-lt}
 use Rattle.yard.proofs.general.Lists.{count-append}
 use Rattle.yard.proofs.yards.Formed.{bad-at}
-use Rattle.scan.proofs.Left.{left-start, left-ends, place-hits, place-goes}
+use Rattle.scan.proofs.Left.{left-start, place-hits, place-goes, place-ends}
 use Rattle.scan.proofs.Range.{between}
-use Rattle.marks.specs.Marks.{marked, markable, Marks, Leading, Sought, Looked}
+use Rattle.marks.specs.Marks.{marked, markable, Marks, Sought, Looked}
 use Rattle.marks.proofs.Word.{bit-set, bit-was-set}
 
 -- all items passed pass the test, and all that are left, exactly if all do: one item more, and where nothing is left
@@ -142,6 +142,10 @@ module _ (inbound : List ℕ) where
   nothing-sought n h =
       record { room = omega (arith, markable-fresh n); met = λ x k m. marked-fresh n x; left = left-start (badPlace inbound) (length inbound) 1 }
 
+  -- all places have been looked at
+  pub all-sought : {marks : List ℕ} {i : ℕ} → Sought inbound marks i → length inbound ≤ i → i ≤ length inbound → length inbound + 1 ≡ firstBad inbound
+  all-sought {marks} {i} so = place-ends (badPlace inbound) (length inbound) (firstBad inbound) i (so .left)
+
   -- a place is looked at: its car is marked now, and was marked before or not
   module _ (marks : List ℕ) (i : ℕ) (so : Sought inbound marks i) where
     abbrev car : ℕ
@@ -164,15 +168,9 @@ module _ (inbound : List ℕ) where
             let fit = between 1 car (length inbound) inside in
             bad-at inbound i ∙ rw inside (sym (e ∙ so .met car (fit .0) (omega (arith, fit .1, so .room))))
 
-    -- where the cars end, so does the search
-    pub all-looked : (r : ℕ) → Leading inbound r → r ≤ i → i ≤ r → r + 1 ≡ firstBad inbound
-    all-looked r leading l h = omega (arith, go (le-or-lt (length inbound) i))
-      where
-        at-end : i ≡ r
-        at-end = omega arith
-
-        go : (length inbound ≤ i) ⊎ (i < length inbound) → i + 1 ≡ firstBad inbound
-        go (inl m) = left-ends (badPlace inbound) (length inbound) (firstBad inbound) i (i + 1) (so .left) m
-        go (inr m) =
-            let out : inRange inbound car ≡ false = ap (λ (k : ℕ). inRange inbound (getD inbound k 0)) at-end ∙ leading .ends (omega arith) in
-            place-hits (badPlace inbound) (length inbound) (firstBad inbound) i (so .left) m (bad-at inbound i ∙ rw out)
+    pub looked-out : {after : List ℕ} → i < length inbound → inRange inbound car ≡ false → Looked inbound i true after
+    looked-out h out =
+        record {
+          found = λ t. place-hits (badPlace inbound) (length inbound) (firstBad inbound) i (so .left) h (bad-at inbound i ∙ rw out);
+          on = λ e. absurd (true≢false e);
+        }

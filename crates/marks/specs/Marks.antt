@@ -1,5 +1,5 @@
 -- Marks by car, one bit for each in words of 64 bits: which cars were met, and for how many there is room. Cars count from 1.
-use Prim.Native.Nat.{ℕ, _+_, _-_, _*_, _/_, _%_, _≤_, _<_}
+use Prim.Native.Nat.{ℕ, _+_, _-_, _*_, _/_, _%_, _≤_}
 use mathlib.Core.Path.{_≡_}
 use mathlib.Core.Bool.{Bool, true, false, _||_}
 use mathlib.Core.List.{List}
@@ -7,7 +7,7 @@ use lib.Dec.{eqb}
 use lib.ListN.{length, getD, take}
 use Rattle.yard.specs.Words.{listed, first}
 use Rattle.yard.specs.Replay.{bit}
-use Rattle.yard.specs.Answers.{inRange, badPlace, firstBad}
+use Rattle.yard.specs.Answers.{badPlace, firstBad}
 
 -- the cars for which there is room
 unfoldable pub markable : List ℕ → ℕ
@@ -21,12 +21,6 @@ marked words car = bit (car / length words % 64) (getD words (car % length words
 pub record Marks (before : List ℕ) (car : ℕ) (after : List ℕ) : Type 0 where
   pub room : markable after ≡ markable before
   pub now : (x : ℕ) → 1 ≤ x → x ≤ markable before → marked after x ≡ (eqb x car || marked before x)
-
--- the places before the first with a number out of range
-pub record Leading (inbound : List ℕ) (r : ℕ) : Type 0 where
-  pub within : r ≤ length inbound
-  pub cars : (i : ℕ) → i < r → inRange inbound (getD inbound i 0) ≡ true
-  pub ends : r < length inbound → inRange inbound (getD inbound r 0) ≡ false
 
 -- the first i places have been looked at: their cars are marked, and none of them is bad, so that the rest of the search finds what the whole finds
 pub record Sought (inbound marks : List ℕ) (i : ℕ) : Type 0 where

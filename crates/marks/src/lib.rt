@@ -7,7 +7,7 @@ ghost use lib.ListN.{length, getD};
 ghost use Rattle.yard.specs.Words.{every};
 ghost use Rattle.yard.specs.Limits.{limits};
 ghost use Rattle.yard.specs.Answers.{inRange, firstBad};
-ghost use Rattle.marks.specs.Marks.{marked, markable, Marks, Leading, Sought, Looked};
+ghost use Rattle.marks.specs.Marks.{marked, markable, Marks, Sought, Looked};
 
 // Marks the car, and no other: was it marked before?
 fn mark(marks: &mut [u64], car: usize) -> bool
@@ -41,23 +41,6 @@ fn all_inside(inbound: &[u16]) -> bool
     all
 }
 
-// How many places come before the first with a number out of range.
-fn leading(inbound: &[u16]) -> usize
-    requires { ⌜ length (now inbound) ≤ limits .cars ⌝ }
-    ensures { λ r. ⌜ Leading (now (inbound .entry)) r ⌝ }
-{
-    if all_inside(inbound) {
-        return inbound.len();
-    }
-    let n = inbound.len() as u16;
-    for i in 0..inbound.len() {
-        if !inside(inbound[i], n) {
-            return i;
-        }
-    }
-    inbound.len()
-}
-
 // Marks the car at the place behind the first i: was it met before?
 fn again(marks: &mut [u64], inbound: &[u16], i: usize) -> bool
     requires { ⌜ (i < length (now inbound)) × (inRange (now inbound) (getD (now inbound) i 0) ≡ true) × Sought (now inbound) (now marks) i ⌝ }
@@ -66,30 +49,67 @@ fn again(marks: &mut [u64], inbound: &[u16], i: usize) -> bool
     mark(marks, inbound[i] as usize)
 }
 
-// The first place with a number out of range or met before, or one past the last where there is none. Two places are looked at in a
-// turn, which halves what the loop itself costs.
+// The same where the number may be out of range: that is bad too.
+fn bad(marks: &mut [u64], inbound: &[u16], i: usize) -> bool
+    requires { ⌜ (i < length (now inbound)) × (length (now inbound) ≤ limits .cars) × Sought (now inbound) (now marks) i ⌝ }
+    ensures { λ r. ⌜ Looked (now (inbound .entry)) i r (now (marks .exit)) ⌝ }
+{
+    if !inside(inbound[i], inbound.len() as u16) {
+        return true;
+    }
+    again(marks, inbound, i)
+}
+
+// The first bad place, found place by place.
+fn by_place(inbound: &[u16]) -> usize
+    requires { ⌜ length (now inbound) ≤ limits .cars ⌝ }
+    ensures { λ r. ⌜ r ≡ firstBad (now (inbound .entry)) ⌝ }
+{
+    let mut marks = [0u64; yard::CARS / 64];
+    for i in 0..inbound.len() {
+        if bad(&mut marks, inbound, i) {
+            return i + 1;
+        }
+    }
+    inbound.len() + 1
+}
+
+// The same where every number is a car. Two places are looked at in a turn, which halves what the loop itself costs; those before
+// place k are done.
+fn by_pair(inbound: &[u16]) -> usize
+    requires { ⌜ (length (now inbound) ≤ limits .cars) × (every (inRange (now inbound)) (now inbound) ≡ true) ⌝ }
+    ensures { λ r. ⌜ r ≡ firstBad (now (inbound .entry)) ⌝ }
+{
+    let mut marks = [0u64; yard::CARS / 64];
+    let mut k = 1;
+    while k < inbound.len() {
+        if again(&mut marks, inbound, k - 1) {
+            return k;
+        }
+        if again(&mut marks, inbound, k) {
+            return k + 1;
+        }
+        k += 2;
+    }
+    if inbound.len() < k {
+        return k;
+    }
+    if again(&mut marks, inbound, k - 1) {
+        return k;
+    }
+    k + 1
+}
+
+// The first place with a number out of range or met before, or one past the last where there is none. A pass over all numbers
+// does not pay for a short list.
 pub fn first_bad(inbound: &[u16]) -> usize
     requires { ⌜ length (now inbound) ≤ limits .cars ⌝ }
     ensures { λ r. ⌜ r ≡ firstBad (now (inbound .entry)) ⌝ }
 {
-    let cars = leading(inbound);
-    let mut marks = [0u64; yard::CARS / 64];
-    let mut i = 0;
-    while i + 1 < cars {
-        if again(&mut marks, inbound, i) {
-            return i + 1;
+    if 16 <= inbound.len() {
+        if all_inside(inbound) {
+            return by_pair(inbound);
         }
-        let next = i + 1;
-        if again(&mut marks, inbound, next) {
-            return next + 1;
-        }
-        i = next + 1;
     }
-    if cars <= i {
-        return cars + 1;
-    }
-    if again(&mut marks, inbound, i) {
-        return i + 1;
-    }
-    cars + 1
+    by_place(inbound)
 }
