@@ -60,14 +60,13 @@ fn bad(marks: &mut [u64], inbound: &[u16], i: usize) -> bool
     again(marks, inbound, i)
 }
 
-// The first bad place, found place by place.
-fn by_place(inbound: &[u16]) -> usize
-    requires { ⌜ length (now inbound) ≤ limits .cars ⌝ }
+// The first bad place, found place by place with marks that are still empty.
+fn by_place(inbound: &[u16], marks: &mut [u64]) -> usize
+    requires { ⌜ (length (now inbound) ≤ limits .cars) × Sought (now inbound) (now marks) 0 ⌝ }
     ensures { λ r. ⌜ r ≡ firstBad (now (inbound .entry)) ⌝ }
 {
-    let mut marks = [0u64; yard::CARS / 64];
     for i in 0..inbound.len() {
-        if bad(&mut marks, inbound, i) {
+        if bad(marks, inbound, i) {
             return i + 1;
         }
     }
@@ -76,17 +75,16 @@ fn by_place(inbound: &[u16]) -> usize
 
 // The same where every number is a car. Two places are looked at in a turn, which halves what the loop itself costs; those before
 // place k are done.
-fn by_pair(inbound: &[u16]) -> usize
-    requires { ⌜ (length (now inbound) ≤ limits .cars) × (every (inRange (now inbound)) (now inbound) ≡ true) ⌝ }
+fn by_pair(inbound: &[u16], marks: &mut [u64]) -> usize
+    requires { ⌜ (length (now inbound) ≤ limits .cars) × (every (inRange (now inbound)) (now inbound) ≡ true) × Sought (now inbound) (now marks) 0 ⌝ }
     ensures { λ r. ⌜ r ≡ firstBad (now (inbound .entry)) ⌝ }
 {
-    let mut marks = [0u64; yard::CARS / 64];
     let mut k = 1;
     while k < inbound.len() {
-        if again(&mut marks, inbound, k - 1) {
+        if again(marks, inbound, k - 1) {
             return k;
         }
-        if again(&mut marks, inbound, k) {
+        if again(marks, inbound, k) {
             return k + 1;
         }
         k += 2;
@@ -94,22 +92,25 @@ fn by_pair(inbound: &[u16]) -> usize
     if inbound.len() < k {
         return k;
     }
-    if again(&mut marks, inbound, k - 1) {
+    if again(marks, inbound, k - 1) {
         return k;
     }
     k + 1
 }
 
-// The first place with a number out of range or met before, or one past the last where there is none. A pass over all numbers
-// does not pay for a short list.
+// The first place with a number out of range or met before, or one past the last where there is none. One word does for a short
+// list, and then the machine need not keep it in memory.
 pub fn first_bad(inbound: &[u16]) -> usize
     requires { ⌜ length (now inbound) ≤ limits .cars ⌝ }
     ensures { λ r. ⌜ r ≡ firstBad (now (inbound .entry)) ⌝ }
 {
-    if 16 <= inbound.len() {
-        if all_inside(inbound) {
-            return by_pair(inbound);
-        }
+    if inbound.len() <= 64 {
+        let mut word = [0u64; 1];
+        return by_place(inbound, &mut word);
     }
-    by_place(inbound)
+    let mut words = [0u64; yard::CARS / 64];
+    if all_inside(inbound) {
+        return by_pair(inbound, &mut words);
+    }
+    by_place(inbound, &mut words)
 }
