@@ -25,7 +25,8 @@ loop-again : tie.Need-loop-again Inv-loop μ-loop
 loop-again c =
     let at-loop = c .before .before .before in
     let inbound = now (at-loop .before .before .args .inbound) in
-    (omega arith, every-next (inRange inbound) inbound _ (at-loop .loop .all) _ (at-loop .loop .inv .1) (c .before .before .loop-test .taken) (c .inside .ensures))
+    let known = at-loop .loop .inv .1 in
+    (omega arith, every-next (inRange inbound) inbound _ (at-loop .loop .all) _ known (c .before .before .loop-test .taken) (c .inside .ensures))
 
 returns : tie.Need-returns Inv-loop μ-loop
 returns c =

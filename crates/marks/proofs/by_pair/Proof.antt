@@ -29,23 +29,21 @@ again-requires c κs =
     (omega (arith, here), each (inRange inbound) inbound (at-start .pre .1) _ (omega (arith, here)), at-loop .loop .inv .3)
 
 returns : tie.Need-returns Inv-loop μ-loop
-returns c = omega (arith, c .before .before .before .again .ensures .found (c .if1 .taken), c .before .before .before .before .before .before .loop .inv .1)
-
--- the first place of a pair is not bad
-first-passed : (c : tie.Else1 Inv-loop μ-loop)
-    → Sought (now (c .before .before .before .before .before .before .before .before .before .args .inbound)) (c .before .before .before .again .last .0) (c .before .before .before .before .before .before .loop .k)
-first-passed c =
+returns c =
     let at-loop = c .before .before .before .before .before .before in
-    let next : at-loop .loop .k - 1 + 1 ≡ at-loop .loop .k = omega (arith, at-loop .loop .inv .1) in
-    subst (Sought _ _) next (c .before .before .before .again .ensures .on (c .if1 .left))
+    omega (arith, c .before .before .before .again .ensures .found (c .if1 .taken), at-loop .loop .inv .1)
 
 again-requires-2 : tie.Need-again-requires-2 Inv-loop μ-loop
 again-requires-2 c κs =
-    let at-test = c .before .before .before .before .before .before in
+    let at-else = c .before in
+    let at-test = at-else .before .before .before .before .before in
+    let k = at-test .before .loop .k in
     let at-start = at-test .before .before .before .before in
     let inbound = now (at-start .args .inbound) in
     let here = at-test .loop-test .taken in
-    (here, each (inRange inbound) inbound (at-start .pre .1) _ here, first-passed (c .before))
+    let next : k - 1 + 1 ≡ k = omega (arith, at-test .before .loop .inv .1) in
+    let passed = subst (Sought _ _) next (at-else .before .before .before .again .ensures .on (at-else .if1 .left)) in
+    (here, each (inRange inbound) inbound (at-start .pre .1) _ here, passed)
 
 loop-again : tie.Need-loop-again Inv-loop μ-loop
 loop-again c =

@@ -16,7 +16,8 @@ by-place-requires c κs =
 by-pair-requires : tie.Need-by-pair-requires
 by-pair-requires c κs =
     let at-start = c .before .before .before .before .before in
-    (at-start .pre, sym (c .before .before .all-inside .ensures) ∙ c .before .if2 .taken, nothing-sought (now (at-start .args .inbound)) (limits .cars / 64) (at-start .pre))
+    let all = sym (c .before .before .all-inside .ensures) ∙ c .before .if2 .taken in
+    (at-start .pre, all, nothing-sought (now (at-start .args .inbound)) (limits .cars / 64) (at-start .pre))
 
 by-place-requires-2 : tie.Need-by-place-requires-2
 by-place-requires-2 c κs =

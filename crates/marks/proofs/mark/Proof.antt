@@ -41,7 +41,8 @@ returns : tie.Need-returns
 returns c =
     let words = now (c .before .args .marks) in
     let car = c .before .args .car in
-    rw (one-bit (car / length words)) (was-marked words car (c .before .pre .0) (c .before .pre .1), marks-one words car (c .before .pre .0) (c .before .pre .1))
+    let given = c .before .pre in
+    rw (one-bit (car / length words)) (was-marked words car (given .0) (given .1), marks-one words car (given .0) (given .1))
 
 pub mark-spec : {M : Type 1} → statement M
 mark-spec = tie.close (tie.spec rem-at mul-before slice-read-before div-after shl-after mul-marks slice-write-marks same-length returns)
