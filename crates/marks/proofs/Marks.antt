@@ -1,22 +1,22 @@
 -- Laws of the marks, over any number of words: at first no car is marked, and marking a car as it comes keeps the marks at the cars listed so far.
 use mathlib.Core.Path.{_≡_, refl, sym, ap, ap₂, _∙_}
-use mathlib.Core.Logic.{_⊎_, inl, inr, ⊎-elim}
-use mathlib.Core.Bool.{Bool, true, false, _&&_, _||_, true≢false, and-assoc, and-true}
+use mathlib.Core.Logic.{_⊎_, inl, inr}
+use mathlib.Core.Bool.{Bool, true, false, _||_, true≢false}
 use mathlib.Core.List.{List, [], _∷_}
-use Prim.Native.Nat.{ℕ, zero, suc, _+_, _-_, _*_, _/_, _%_, _^_, _≤_, _<_}
+use Prim.Native.Nat.{ℕ, zero, suc, _+_, _*_, _/_, _%_, _^_, _≤_, _<_}
 use native.Mathlib.Nat.{add-zero, mod-lt, mod-self, mod-eq-of-lt, eq-or-lt-of-le, zero-div}
 use native.Mathlib.Numerals.{add-one}
 use native.Mathlib.Omega.{arith}
 use lib.Arith.{mod-mul}
 use lib.Bits.{bitOr}
 use lib.Dec.{ltb, eqb, lit<}
-use lib.ListN.{length, getD, take, drop, set, drop-of-length-le, replicate, length-set, length-replicate, getD-replicate, List·getD-eq-default}
-use lib.Seq.{take-suc, drop-cons, getD-set-same, getD-set-other}
+use lib.ListN.{length, getD, take, set, replicate, length-set, length-replicate, getD-replicate, List·getD-eq-default}
+use lib.Seq.{take-suc, getD-set-same, getD-set-other}
 use borrow.Author.Tests.{lt-ltb, eq-eqb, ne-eqb, eqb-true, eqb-false}
-use Rattle.yard.specs.Words.{tally, every, count, listed}
+use Rattle.yard.specs.Words.{tally, count, listed}
 use Rattle.yard.specs.Replay.{bit}
 use Rattle.yard.specs.Answers.{inRange, badPlace, firstBad}
-use Rattle.yard.proofs.general.Bools.{split, same-test, and-left, and-right}
+use Rattle.yard.proofs.general.Bools.{split, same-test}
 use Rattle.yard.proofs.general.Numbers.{le-or-lt}
 use Rattle.yard.proofs.general.Lists.{count-append}
 use Rattle.yard.proofs.yards.Formed.{bad-at}
@@ -24,23 +24,6 @@ use Rattle.scan.proofs.Left.{left-start, place-hits, place-goes, place-ends}
 use Rattle.scan.proofs.Range.{between}
 use Rattle.marks.specs.Marks.{marked, markable, Marks, Sought, Looked}
 use Rattle.marks.proofs.Word.{bit-set, bit-was-set}
-
--- all items passed pass the test, and all that are left, exactly if all do: one item more, and where nothing is left
-module _ (p : ℕ → Bool) (l : List ℕ) (i : ℕ) (all whole : Bool) (left : (all && every p (drop i l)) ≡ whole) where
-  pub every-next : {here : Bool} → i < length l → here ≡ p (getD l i 0) → ((all && here) && every p (drop (i + 1) l)) ≡ whole
-  every-next {here} m e = and-assoc all here (every p (drop (i + 1) l)) ∙ ap (λ (b : Bool). all && b) (sym opened) ∙ left
-    where
-      opened : every p (drop i l) ≡ (here && every p (drop (i + 1) l))
-      opened = rw (e, add-one, drop-cons l i 0) refl
-
-  pub every-end : length l ≤ i → all ≡ whole
-  every-end m = sym (and-true all) ∙ ap (λ (u : List ℕ). all && every p u) (sym (drop-of-length-le l m)) ∙ left
-
--- where all items pass, each does
-pub each : (p : ℕ → Bool) (l : List ℕ) → every p l ≡ true → (i : ℕ) → i < length l → p (getD l i 0) ≡ true
-each p [] t i m = absurd (omega arith)
-each p (x ∷ l) t zero m = and-left (p x) (every p l) t
-each p (x ∷ l) t (suc i) m = each p l (and-right (p x) (every p l) t) i (omega arith)
 
 -- words as they are at first
 abbrev pub fresh : ℕ → List ℕ

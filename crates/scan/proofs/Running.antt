@@ -1,6 +1,6 @@
--- Laws of a sum or a largest item over what is left of a list, or over the first of it and one item more.
+-- Laws of a sum, a largest item or a test of all items over what is left of a list, or over the first of it and one item more.
 use mathlib.Core.Path.{_≡_, refl, sym, ap, _∙_}
-use mathlib.Core.Bool.{Bool, true, false}
+use mathlib.Core.Bool.{Bool, true, false, _&&_, and-assoc, and-true}
 use mathlib.Core.List.{List, [], _∷_}
 use Prim.Native.Nat.{ℕ, zero, suc, _+_, max, _≤_, _<_}
 use native.Mathlib.Nat.{add-zero, zero-add, add-suc, suc-add}
@@ -8,8 +8,9 @@ use native.Mathlib.Omega.{arith}
 use native.Mathlib.Numerals.{add-one}
 use lib.ListN.{length, getD, take, drop, drop-of-length-le}
 use lib.Seq.{take-suc, drop-cons}
-use Rattle.yard.specs.Words.{tally, total, most, upFrom}
+use Rattle.yard.specs.Words.{tally, total, most, every, upFrom}
 use Rattle.yard.specs.Night.{sum}
+use Rattle.yard.proofs.general.Bools.{and-left, and-right}
 use Rattle.yard.proofs.general.Lists.{total-append}
 
 -- what is left, with its first item taken off, and where nothing is left
@@ -25,6 +26,23 @@ largest-next l i m = rw (add-one, drop-cons l i 0) refl
 
 pub largest-end : (l : List ℕ) (i : ℕ) → length l ≤ i → most (λ x. x) (drop i l) ≡ 0
 largest-end l i m = ap (λ (u : List ℕ). most (λ x. x) u) (drop-of-length-le l m)
+
+-- all items passed pass the test, and all that are left, exactly if all do: one item more, and where nothing is left
+module _ (p : ℕ → Bool) (l : List ℕ) (i : ℕ) (all whole : Bool) (left : (all && every p (drop i l)) ≡ whole) where
+  pub every-next : {here : Bool} → i < length l → here ≡ p (getD l i 0) → ((all && here) && every p (drop (i + 1) l)) ≡ whole
+  every-next {here} m e = and-assoc all here (every p (drop (i + 1) l)) ∙ ap (λ (b : Bool). all && b) (sym opened) ∙ left
+    where
+      opened : every p (drop i l) ≡ (here && every p (drop (i + 1) l))
+      opened = rw (e, add-one, drop-cons l i 0) refl
+
+  pub every-end : length l ≤ i → all ≡ whole
+  every-end m = sym (and-true all) ∙ ap (λ (u : List ℕ). all && every p u) (sym (drop-of-length-le l m)) ∙ left
+
+-- where all items pass, each does
+pub each : (p : ℕ → Bool) (l : List ℕ) → every p l ≡ true → (i : ℕ) → i < length l → p (getD l i 0) ≡ true
+each p [] t i m = absurd (omega arith)
+each p (x ∷ l) t zero m = and-left (p x) (every p l) t
+each p (x ∷ l) t (suc i) m = each p l (and-right (p x) (every p l) t) i (omega arith)
 
 -- no item is above the largest
 pub item-most : (l : List ℕ) (i : ℕ) → i < length l → getD l i 0 ≤ most (λ x. x) l

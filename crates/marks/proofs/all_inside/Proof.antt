@@ -7,7 +7,7 @@ use denote.Ref.{now}
 use lib.ListN.{length, drop}
 use Rattle.yard.specs.Words.{every}
 use Rattle.yard.specs.Answers.{inRange}
-use Rattle.marks.proofs.Marks.{every-next, every-end}
+use Rattle.scan.proofs.Running.{every-next, every-end}
 use Rattle.marks.proofs.all_inside.Statement.{statement}
 use Rattle.marks.proofs.all_inside.Tie as tie
 

@@ -7,7 +7,8 @@ use native.Mathlib.Omega.{arith}
 use lib.ListN.{length}
 use Rattle.yard.specs.Answers.{inRange}
 use Rattle.marks.specs.Marks.{Sought}
-use Rattle.marks.proofs.Marks.{each, all-sought}
+use Rattle.scan.proofs.Running.{each}
+use Rattle.marks.proofs.Marks.{all-sought}
 use Rattle.marks.proofs.by_pair.Statement.{statement}
 use Rattle.marks.proofs.by_pair.Tie as tie
 
