@@ -7,9 +7,11 @@ cd "$(dirname "$0")/../.."
 folder=$(mktemp -d)
 trap 'rm -rf "$folder"' EXIT
 
-# An edition as one object: its calls and its archive, with no name in sight but the table of its calls.
+# An edition as one object: its calls and its archive, with no name in sight but the table of its calls. Its calls are copied away from
+# its own night.h, so that a call that it lacks is NULL in a table of this edition's size.
 edition() { # CHECKOUT NAME
-    gcc -O2 -Wall -Wextra -I "$1/include" -I tests/beside -c -o "$folder/own.o" "$1/tests/beside/calls.c"
+    cp "$1/tests/beside/calls.c" "$folder/own.c"
+    gcc -O2 -Wall -Wextra -I "$1/include" -I tests/beside -c -o "$folder/own.o" "$folder/own.c"
     ld -r -o "$folder/$2.o" "$folder/own.o" --whole-archive "$1/target/staticlib/libaltairpeg.a"
     objcopy --keep-global-symbol=calls "$folder/$2.o"
     objcopy --redefine-sym calls="$2" "$folder/$2.o"

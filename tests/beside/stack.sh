@@ -1,12 +1,14 @@
 #!/usr/bin/env bash
 # Measures the stack that the calls take: stack.sh [CHECKOUT], of this edition or of another one, as run.sh has it. No part of the gate.
 set -euo pipefail
-cd "$(dirname "$0")/../.."
-edition=${1:-.}
+here=$(cd "$(dirname "$0")/../.." && pwd)
+edition=$(cd "${1:-$here}" && pwd)
+cd "$here"
 folder=$(mktemp -d)
 trap 'rm -rf "$folder"' EXIT
+cp "$edition/tests/beside/calls.c" "$folder/own.c"
 gcc -O2 -Wall -Wextra -I "$edition/include" -I tests/beside -o "$folder/stack" \
-    tests/beside/stack.c "$edition/tests/beside/calls.c" "$edition/target/staticlib/libaltairpeg.a"
+    tests/beside/stack.c "$folder/own.c" "$edition/target/staticlib/libaltairpeg.a"
 echo '| call | bytes of stack |'
 echo '|---|---|'
 "$folder/stack"
