@@ -3,7 +3,9 @@
  * Link with libaltairpeg.a, which `rt staticlib altairpeg` writes to target/staticlib/, or with what `make install` puts in
  * place, archive or shared object.
  *
- * A night: the lengths of the outbound trains, the inbound order of the cars, the sorting tracks and the room on each.
+ * A night: the lengths of the outbound trains, the inbound order of the cars, its mark, the sorting tracks and the room on
+ * each. Its mark says whether the destination tracks are open from the first roll-in on, or closed: then they serve other
+ * work until the first pull, and no car may roll to one before it. A closed night is the usual one; a caller says which.
  * A plan: a night, its steps h, and one code for each car, in car order, a number below 2^h: bit k set means that the
  * car is pulled in step k. Cars, trains and places in a list count from 1, tracks, steps and places on a track from 0.
  *
@@ -33,6 +35,7 @@
  *   11   card edition not 1                                   A: edition
  *   12   non-zero padding, or bytes after the end             A: the card's right length
  *   13   a timing not allowed                                 A: 1 pull, 2 push
+ *   14   a zero code in a closed night                        A: first such car
  * [end of table]
  *
  * Within 1, 4 and 13 the lowest A comes first; within 2 a length of 0 comes before the sum.
@@ -72,9 +75,17 @@ enum altairpeg_number {
     ALTAIRPEG_CARD_TOO_SHORT = 10,
     ALTAIRPEG_CARD_EDITION = 11,
     ALTAIRPEG_CARD_END_WRONG = 12,
-    ALTAIRPEG_TIMING_NOT_ALLOWED = 13
+    ALTAIRPEG_TIMING_NOT_ALLOWED = 13,
+    ALTAIRPEG_ZERO_CODE = 14
 };
 /* [end of numbers] */
+
+/* The mark of a night. A call takes any other number for closed: a plan that does with the tracks closed does with them
+ * open, too. */
+enum altairpeg_mark {
+    ALTAIRPEG_OPEN = 0,
+    ALTAIRPEG_CLOSED = 1
+};
 
 /* A number and its two details. */
 typedef struct altairpeg_answer {
@@ -83,11 +94,12 @@ typedef struct altairpeg_answer {
     size_t b;
 } altairpeg_answer;
 
-/* What the card reader tells: a number and its details, then the card's h, W, C, n and m, all 0 where it refuses. */
+/* What the card reader tells: a number and its details, then the card's mark, h, W, C, n and m, all 0 where it refuses. */
 typedef struct altairpeg_card_answer {
     size_t number;
     size_t a;
     size_t b;
+    size_t mark;
     size_t steps;
     size_t tracks;
     size_t room;
@@ -117,29 +129,31 @@ typedef struct altairpeg_counts {
     size_t steps;
 } altairpeg_counts;
 
-/* Derives the plan of a night with the fewest steps, at most counts.steps.
+/* Derives the plan of a night with the fewest steps, at most counts.steps. In a closed night no car gets code 0.
  * Tests: 1 (cars, trains, tracks, room, limit), 2, 3, 4 (codes), 5, 6.
  * Writes: the code of each car to the first n items of codes.
  * Answers: A the steps, B the passes of the whole plan.
- * 5 says that no plan that builds the trains keeps to the limit; 6 speaks of the derived plan alone. */
+ * 5 says that no plan that builds the trains keeps to the limit, with the destinations closed until the first pull where the
+ * night is closed; 6 speaks of the derived plan alone. */
 altairpeg_answer altairpeg_derive(
     const uint16_t *lengths, size_t lengths_len,
     const uint16_t *inbound, size_t inbound_len,
-    altairpeg_counts counts,
+    size_t mark, altairpeg_counts counts,
     uint16_t *codes, size_t codes_len);
 
 /* Checks a plan offered by anyone, by its replay.
- * Tests: 1 (cars, trains, tracks, room, steps), 2, 3, 4 (codes), 7, 8, 6, 9.
+ * Tests: 1 (cars, trains, tracks, room, steps), 2, 3, 4 (codes), 7, 14 in a closed night, 8, 6, 9.
  * Writes: nothing.
  * Answers: A the passes, B the cars of the fullest pull, 0 where the plan has no steps. */
 altairpeg_answer altairpeg_check(
     const uint16_t *lengths, size_t lengths_len,
     const uint16_t *inbound, size_t inbound_len,
     const uint16_t *codes, size_t codes_len,
-    altairpeg_counts counts);
+    size_t mark, altairpeg_counts counts);
 
 /* Replays a plan to a stage: stage 0 is the yard after the first roll-in, stage s after s steps.
- * Tests, always of the whole plan: 1 (cars, trains, tracks, room, steps, stage), 2, 3, 4 (codes, tracks, places), 7, 8, 6.
+ * Tests, always of the whole plan: 1 (cars, trains, tracks, room, steps, stage), 2, 3, 4 (codes, tracks, places), 7, 14 in a
+ * closed night, 8, 6.
  * Writes: each car's track to the first n items of on, tracks + train - 1 for the destination of a train; and its place
  * there, from 0, the front, to the first n items of at.
  * Answers: A the passes up to the stage, B 0. */
@@ -147,7 +161,7 @@ altairpeg_answer altairpeg_replay(
     const uint16_t *lengths, size_t lengths_len,
     const uint16_t *inbound, size_t inbound_len,
     const uint16_t *codes, size_t codes_len,
-    altairpeg_counts counts, size_t stage,
+    size_t mark, altairpeg_counts counts, size_t stage,
     uint16_t *on, size_t on_len,
     uint16_t *at, size_t at_len);
 
@@ -155,14 +169,14 @@ altairpeg_answer altairpeg_replay(
  * Tests: an empty card is 10 (A 1); 11; under 5 bytes is 10 (A 5); 1 (cars, trains, tracks, room, steps); shorter than
  * the whole is 10; 4 (lengths, inbound, codes); 2; 3; 12.
  * Writes: the first m items of lengths, the first n of inbound and of codes.
- * Answers: the card's steps, tracks, room, cars and trains; A and B are 0. */
+ * Answers: the card's mark, steps, tracks, room, cars and trains; A and B are 0. Edition 1 means open. */
 altairpeg_card_answer altairpeg_read(
     const uint8_t *card, size_t card_len,
     uint16_t *lengths, size_t lengths_len,
     uint16_t *inbound, size_t inbound_len,
     uint16_t *codes, size_t codes_len);
 
-/* Writes the night card of a plan.
+/* Writes the night card of a plan of an open night: a closed one goes on no card yet, so there is no mark to give.
  * Tests: 1 (cars, trains, tracks, room, steps), 2, 3, 4 (codes), 7, 4 (card).
  * Writes: the card's bytes to the front of card.
  * Answers: A the card's length in bytes, B 0. */

@@ -22,7 +22,7 @@ from .errors import AltairpegError, FileError, InputError, LibraryError
 from .nights import Checked, Derived, Night, Numbers, Plan, Stage
 from .refusal import Refusal
 
-__version__ = "1.0.0"
+__version__ = "2.0.0"
 
 __all__ = [
     "Night", "Plan", "Derived", "Checked", "Stage", "Numbers",

@@ -19,6 +19,7 @@ NAMES: dict[int, str] = {
     11: "CARD_EDITION",
     12: "CARD_END_WRONG",
     13: "TIMING_NOT_ALLOWED",
+    14: "ZERO_CODE",
 }
 
 WORDS: dict[int, str] = {
@@ -36,6 +37,7 @@ WORDS: dict[int, str] = {
     11: "card edition not 1",
     12: "non-zero padding, or bytes after the end",
     13: "a timing not allowed",
+    14: "a zero code in a closed night",
 }
 
 # The words of the details by A and B, None for every other; {a} and {b} are the details themselves.
@@ -54,4 +56,5 @@ DETAILS: dict[int, list[tuple[int | None, int | None, str]]] = {
     11: [(None, None, "edition {a}")],
     12: [(None, None, "right length {a}")],
     13: [(1, None, "pull"), (2, None, "push"), (None, None, "A {a}, B {b}")],
+    14: [(None, None, "car {a}")],
 }

@@ -4,14 +4,14 @@
 //! [`Refusal`] with the paper's number, details and words where a call refuses.
 //!
 //! ```
-//! use altairpeg::{check, derive, Night};
+//! use altairpeg::{check, derive, Mark, Night};
 //!
-//! let night = Night { lengths: &[6], inbound: &[3, 6, 1, 5, 2, 4], tracks: 2, room: 3 };
+//! let night = Night { lengths: &[6], inbound: &[3, 6, 1, 5, 2, 4], tracks: 2, room: 4, mark: Mark::Closed };
 //! let derived = derive(night, 8)?;
-//! assert_eq!((derived.steps, derived.passes), (2, 11));
-//! assert_eq!(derived.codes, [0, 0, 1, 1, 2, 3]);
+//! assert_eq!((derived.steps, derived.passes), (3, 14));
+//! assert_eq!(derived.codes, [1, 1, 2, 2, 3, 5]);
 //!
-//! assert_eq!(check(derived.plan(night))?.fullest_pull, 3);
+//! assert_eq!(check(derived.plan(night))?.fullest_pull, 4);
 //! # Ok::<(), altairpeg::Refusal>(())
 //! ```
 
@@ -23,7 +23,7 @@ mod words;
 
 use altairpeg_sys::Answer;
 #[doc(inline)]
-pub use altairpeg_sys::{Night, Plan, Timings, CARD_BYTES, CARS, TRAINS};
+pub use altairpeg_sys::{Mark, Night, OpenPlan, Plan, Timings, CARD_BYTES, CARS, TRAINS};
 pub use refusal::Refusal;
 pub use words::Kind;
 
@@ -75,9 +75,9 @@ impl Stage {
     /// The cars on a track, front first.
     ///
     /// ```
-    /// use altairpeg::{replay, Night, Plan};
+    /// use altairpeg::{replay, Mark, Night, Plan};
     ///
-    /// let night = Night { lengths: &[6], inbound: &[3, 6, 1, 5, 2, 4], tracks: 2, room: 3 };
+    /// let night = Night { lengths: &[6], inbound: &[3, 6, 1, 5, 2, 4], tracks: 2, room: 3, mark: Mark::Open };
     /// let plan = Plan { night, steps: 2, codes: &[0, 0, 1, 1, 2, 3] };
     /// assert_eq!(replay(plan, 0)?.cars_on(0), [3, 6, 4]);
     /// assert_eq!(replay(plan, 2)?.cars_on(2), [1, 2, 3, 4, 5, 6]);
@@ -105,6 +105,8 @@ pub struct Card {
     pub tracks: usize,
     /// The room on each.
     pub room: usize,
+    /// The mark of the night: edition 1 means open.
+    pub mark: Mark,
     /// The steps of the plan.
     pub steps: usize,
     /// The code of each car, in car order.
@@ -119,6 +121,7 @@ impl Card {
             inbound: &self.inbound,
             tracks: self.tracks,
             room: self.room,
+            mark: self.mark,
         }
     }
 
@@ -149,7 +152,8 @@ fn items(night: Night) -> Vec<u16> {
 
 /// Derives the plan with the fewest steps; refuses 1, 2, 3, 5 or 6.
 ///
-/// 5 says that no plan that builds the trains keeps to the limit; 6 speaks of the derived plan alone.
+/// In a closed night no car gets code 0. 5 says that no plan that builds the trains, in a closed night
+/// without code 0, keeps to the limit; 6 speaks of the derived plan alone.
 pub fn derive(night: Night, limit: usize) -> Result<Derived, Refusal> {
     let mut codes = items(night);
     let answer = done(altairpeg_sys::derive(night, limit, &mut codes))?;
@@ -160,7 +164,7 @@ pub fn derive(night: Night, limit: usize) -> Result<Derived, Refusal> {
     })
 }
 
-/// Checks a plan offered by anyone, by its replay; refuses 1, 2, 3, 4, 7, 8, 6 or 9.
+/// Checks a plan offered by anyone, by its replay; refuses 1, 2, 3, 4, 7, 14, 8, 6 or 9.
 pub fn check(plan: Plan) -> Result<Checked, Refusal> {
     let answer = done(altairpeg_sys::check(plan))?;
     Ok(Checked {
@@ -190,7 +194,8 @@ pub fn replay(plan: Plan, stage: usize) -> Result<Stage, Refusal> {
 ///     0x12, 0x20, 0x0C, 0x06, 0x02, 0x03, 0x00, 0x60, 0x30, 0x02, 0x02, 0x80, 0x40, 0x20, 0x2D, 0x80,
 /// ])?;
 /// assert_eq!(card.inbound, [3, 6, 1, 5, 2, 4]);
-/// assert_eq!(altairpeg::write_card(card.plan())?.len(), 16);
+/// let plan = card.plan().open().expect("edition 1 means open");
+/// assert_eq!(altairpeg::write_card(plan)?.len(), 16);
 /// # Ok::<(), altairpeg::Refusal>(())
 /// ```
 pub fn read_card(card: &[u8]) -> Result<Card, Refusal> {
@@ -207,13 +212,16 @@ pub fn read_card(card: &[u8]) -> Result<Card, Refusal> {
         inbound,
         tracks: told.tracks,
         room: told.room,
+        mark: Mark::of(told.mark),
         steps: told.steps,
         codes,
     })
 }
 
-/// Writes the night card of a plan; refuses 1, 2, 3, 4 or 7.
-pub fn write_card(plan: Plan) -> Result<Vec<u8>, Refusal> {
+/// Writes the night card of a plan of an open night; refuses 1, 2, 3, 4 or 7.
+///
+/// A closed night goes on no card yet: [`Plan::open`] gives nothing for one.
+pub fn write_card(plan: OpenPlan) -> Result<Vec<u8>, Refusal> {
     let mut card = vec![0; CARD_BYTES];
     let answer = done(altairpeg_sys::write(plan, &mut card))?;
     card.truncate(answer.a);

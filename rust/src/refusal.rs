@@ -23,7 +23,7 @@ impl Refusal {
     /// ```
     /// use altairpeg::{derive, Kind, Night};
     ///
-    /// let night = Night { lengths: &[6], inbound: &[3, 6, 1, 5, 2, 4], tracks: 2, room: 3 };
+    /// let night = Night { lengths: &[6], inbound: &[3, 6, 1, 5, 2, 4], tracks: 2, room: 3, mark: Mark::Open };
     /// let refusal = derive(night, 1).unwrap_err();
     /// assert_eq!(refusal.kind(), Kind::LimitTooLow);
     /// assert_eq!(refusal.to_string(), "refused 5 2 0: fewest steps above the limit (fewest steps 2)");

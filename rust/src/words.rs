@@ -32,6 +32,8 @@ pub enum Kind {
     CardEndWrong,
     /// 13: a timing not allowed. A: 1 pull, 2 push.
     TimingNotAllowed,
+    /// 14: a zero code in a closed night. A: first such car.
+    ZeroCode,
     /// Any other: a number the paper does not have.
     Unknown,
 }
@@ -52,6 +54,7 @@ pub(crate) fn kind(number: usize) -> Kind {
         11 => Kind::CardEdition,
         12 => Kind::CardEndWrong,
         13 => Kind::TimingNotAllowed,
+        14 => Kind::ZeroCode,
         _ => Kind::Unknown,
     }
 }
@@ -73,6 +76,7 @@ pub(crate) fn words(number: usize) -> &'static str {
         11 => "card edition not 1",
         12 => "non-zero padding, or bytes after the end",
         13 => "a timing not allowed",
+        14 => "a zero code in a closed night",
         _ => "a number the paper does not have",
     }
 }
@@ -107,6 +111,7 @@ pub(crate) fn details(number: usize, a: usize, b: usize) -> String {
         (12, _, _) => format!("right length {a}"),
         (13, 1, _) => "pull".to_string(),
         (13, 2, _) => "push".to_string(),
+        (14, _, _) => format!("car {a}"),
         _ => format!("A {a}, B {b}"),
     }
 }

@@ -12,8 +12,40 @@ pub const TRAINS: usize = 64;
 /// The bytes of the longest card.
 pub const CARD_BYTES: usize = 1237;
 
-/// A night: the lengths of the outbound trains, the inbound order of the cars, the sorting tracks
-/// and the room on each.
+/// A night's mark: whether cars may roll to the destination tracks from the start.
+///
+/// There is no usual one that a caller could leave out: most yards are closed, most cards so far open.
+#[derive(Clone, Copy, Debug, PartialEq, Eq, Hash)]
+pub enum Mark {
+    /// The destination tracks take cars from the first roll-in on.
+    Open,
+    /// The destination tracks serve other work until the first pull: no car rolls to one before it.
+    Closed,
+}
+
+impl Mark {
+    /// The mark that a call tells or takes as a number: 0 is open, every other closed.
+    #[inline]
+    pub fn of(number: usize) -> Mark {
+        if number == 0 {
+            Mark::Open
+        } else {
+            Mark::Closed
+        }
+    }
+
+    /// The number by which a call takes it.
+    #[inline]
+    pub fn number(self) -> usize {
+        match self {
+            Mark::Open => 0,
+            Mark::Closed => 1,
+        }
+    }
+}
+
+/// A night: the lengths of the outbound trains, the inbound order of the cars, the sorting tracks,
+/// the room on each, and its mark.
 #[derive(Clone, Copy, Debug, PartialEq, Eq)]
 pub struct Night<'a> {
     /// The cars of each train; the list sets how many trains there are.
@@ -24,6 +56,8 @@ pub struct Night<'a> {
     pub tracks: usize,
     /// The cars for which a sorting track has room, 1 to 512.
     pub room: usize,
+    /// Whether the destination tracks are open, or closed until the first pull.
+    pub mark: Mark,
 }
 
 /// A plan: a night, its steps, and one code for each car, in car order.
@@ -35,6 +69,29 @@ pub struct Plan<'a> {
     pub steps: usize,
     /// The codes: bit k set means that the car is pulled in step k.
     pub codes: &'a [u16],
+}
+
+impl<'a> Plan<'a> {
+    /// The plan as one of an open night, or nothing where its night is closed.
+    #[inline]
+    pub fn open(self) -> Option<OpenPlan<'a>> {
+        match self.night.mark {
+            Mark::Open => Some(OpenPlan(self)),
+            Mark::Closed => None,
+        }
+    }
+}
+
+/// A plan of an open night: what a card of edition 1 holds. [`Plan::open`] makes it.
+#[derive(Clone, Copy, Debug, PartialEq, Eq)]
+pub struct OpenPlan<'a>(Plan<'a>);
+
+impl<'a> OpenPlan<'a> {
+    /// The plan.
+    #[inline]
+    pub fn plan(self) -> Plan<'a> {
+        self.0
+    }
 }
 
 /// The counts of a call that no list sets: the sorting tracks, the room on each, and the steps of a
@@ -71,6 +128,8 @@ pub struct Answer {
 pub struct CardAnswer {
     /// The number and its details.
     pub answer: Answer,
+    /// The number of the card's mark, [`Mark::of`] it: edition 1 means open.
+    pub mark: usize,
     /// The card's steps.
     pub steps: usize,
     /// The card's tracks.
@@ -114,6 +173,7 @@ mod raw {
             lengths_len: usize,
             inbound: *const u16,
             inbound_len: usize,
+            mark: usize,
             counts: Counts,
             codes: *mut u16,
             codes_len: usize,
@@ -125,6 +185,7 @@ mod raw {
             inbound_len: usize,
             codes: *const u16,
             codes_len: usize,
+            mark: usize,
             counts: Counts,
         ) -> Answer;
         pub fn altairpeg_replay(
@@ -134,6 +195,7 @@ mod raw {
             inbound_len: usize,
             codes: *const u16,
             codes_len: usize,
+            mark: usize,
             counts: Counts,
             stage: usize,
             on: *mut u16,
@@ -167,7 +229,7 @@ mod raw {
     }
 }
 
-/// Calls an export with the lists it reads, its counts, and the lists it writes; a list goes over as
+/// Calls an export with the lists it reads, its numbers, and the lists it writes; a list goes over as
 /// a pointer, then a length.
 macro_rules! call {
     ($name:ident reads [$($read:expr),*] counts [$($count:expr),*] writes [$($written:expr),*]) => {
@@ -188,7 +250,7 @@ macro_rules! call {
 pub fn derive(night: Night, limit: usize, codes: &mut [u16]) -> Answer {
     call!(altairpeg_derive
         reads [night.lengths, night.inbound]
-        counts [Counts::of(night, limit)]
+        counts [night.mark.number(), Counts::of(night, limit)]
         writes [codes])
 }
 
@@ -197,7 +259,7 @@ pub fn derive(night: Night, limit: usize, codes: &mut [u16]) -> Answer {
 pub fn check(plan: Plan) -> Answer {
     call!(altairpeg_check
         reads [plan.night.lengths, plan.night.inbound, plan.codes]
-        counts [Counts::of(plan.night, plan.steps)]
+        counts [plan.night.mark.number(), Counts::of(plan.night, plan.steps)]
         writes [])
 }
 
@@ -206,7 +268,7 @@ pub fn check(plan: Plan) -> Answer {
 pub fn replay(plan: Plan, stage: usize, on: &mut [u16], at: &mut [u16]) -> Answer {
     call!(altairpeg_replay
         reads [plan.night.lengths, plan.night.inbound, plan.codes]
-        counts [Counts::of(plan.night, plan.steps), stage]
+        counts [plan.night.mark.number(), Counts::of(plan.night, plan.steps), stage]
         writes [on, at])
 }
 
@@ -221,9 +283,10 @@ pub fn read(
     call!(altairpeg_read reads [card] counts [] writes [lengths, inbound, codes])
 }
 
-/// Writes the night card of a plan.
+/// Writes the night card of a plan of an open night: a closed one goes on no card yet.
 #[inline]
-pub fn write(plan: Plan, card: &mut [u8]) -> Answer {
+pub fn write(plan: OpenPlan, card: &mut [u8]) -> Answer {
+    let plan = plan.plan();
     call!(altairpeg_write
         reads [plan.night.lengths, plan.night.inbound, plan.codes]
         counts [Counts::of(plan.night, plan.steps)]
