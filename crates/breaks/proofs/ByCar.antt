@@ -96,7 +96,7 @@ Numbered lengths inbound into b = (i : ℕ) → i < b → getD into i 0 ≡ brea
 pub record Counted (lengths inbound : List ℕ) (t m b : ℕ) (into : List ℕ) : Type 0 where
   pub walked : Walked lengths t b
   pub largest : m ≡ most (breaksIn lengths inbound) (upFrom 1 t)
-  pub few : m ≤ length inbound
+  pub few : m ≤ length inbound - 1
   pub listed : Numbered lengths inbound into b
 
 module _ (lengths inbound : List ℕ) (f : Listed lengths inbound) where

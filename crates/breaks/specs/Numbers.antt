@@ -21,5 +21,5 @@ pub record Train (places : List ℕ) (b e : ℕ) (before : List ℕ) (r : ℕ) (
 -- all trains: the most breaks in one, and those before each car
 pub record Numbers (lengths inbound : List ℕ) (r : ℕ) (after : List ℕ) : Type 0 where
   pub most : r ≡ mostBreaks lengths inbound
-  pub few : r ≤ length inbound
+  pub few : r ≤ length inbound - 1
   pub listed : take (length inbound) after ≡ map (breaksBefore lengths inbound) (cars (length inbound))

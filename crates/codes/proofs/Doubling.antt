@@ -12,14 +12,14 @@ use lib.Pow.{pow-mono}
 use lib.Seq.{drop-append-seam}
 use borrow.Author.Tests.{le-leb, lt-leb}
 use Rattle.yard.specs.Words.{keep, upFrom}
-use Rattle.yard.specs.Codes.{F, usable, usableCodes, codeNumber}
+use Rattle.yard.specs.Codes.{F, usable, usableCodes}
 use Rattle.yard.proofs.general.Bools.{same-test, not-so}
 use Rattle.yard.proofs.general.Numbers.{le-or-lt}
 use Rattle.yard.proofs.general.Lists.{keep-append, keep-same, keep-none, upFrom-bounds}
 use Rattle.yard.proofs.yards.Counting.{gaps-top}
-use Rattle.yard.proofs.yards.Least.{F-usable}
+use Rattle.yard.proofs.yards.Allowed.{F-usable}
 use Rattle.yard.proofs.yards.Plans.{usable-gaps}
-use Rattle.yard.proofs.yards.DerivedPlan.{codeNumber-usable}
+use Rattle.yard.proofs.yards.DerivedPlan.{kept-item}
 use Rattle.scan.specs.Front.{Under, Front}
 use Rattle.codes.specs.Ring.{lost}
 use Rattle.scan.proofs.Front.{front-items, front-over}
@@ -119,8 +119,8 @@ module _ (W h : ℕ) (pos : 0 < W) where
     written-number = f .number ∙ F-usable W h pos
 
     pub written-small : Under (2 ^ h) (take n t)
-    unfolding codeNumber
-    written-small = rw (front-items f) (λ i m. codeNumber-usable W h pos i (omega (arith, F-usable W h pos)) .1)
+    unfolding usableCodes
+    written-small = rw (front-items f) (λ i m. omega (arith, kept-item (usable W h) 0 (2 ^ h) i m .2))
 
     pub written-next : {bit but r : ℕ} {u : List ℕ} → bit ≡ 2 ^ h → but ≡ lost W h
         → Front (take n t ++ map (λ x. bit + x) (drop but (take n t))) t r u → Front (usableCodes W (h + 1)) s r u

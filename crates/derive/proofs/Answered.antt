@@ -25,7 +25,7 @@ use Rattle.yard.proofs.yards.Formed.{lists-passed}
 use Rattle.yard.proofs.yards.DerivedPlan.{derived-length, derived-sorts}
 use Rattle.yard.proofs.yards.PlanYard.{passes-codes, pullSize-codes}
 use Rattle.sorting.specs.Sums.{pullOf, setBelow, above, firstAbove}
-use Rattle.derive.specs.Plans.{openTests, settled, Settles, planned, Planned}
+use Rattle.derive.specs.Plans.{firstTests, settled, Settles, planned, Planned}
 
 -- ---- the room, worked out from the codes
 
@@ -122,12 +122,12 @@ abbrev behind-counts : Night → ℕ → List Answer
 behind-counts n size = nightTests n ++ (listTest 3 (leb (length (n .inbound)) size) ∷ [])
 
 module _ (n : Night) (limit size : ℕ) {counted : Answer} (is : counted ≡ verdict (nightCounts limits n limit) (says 0 0 0)) where
-  pub given-counts : (counted .number ≡ 0 → ⊥) → counted ≡ verdict (openTests n limit size) (says 0 0 0)
+  pub given-counts : (counted .number ≡ 0 → ⊥) → counted ≡ verdict (firstTests n limit size) (says 0 0 0)
   given-counts h = stops-all (nightCounts limits n limit) (behind-counts n size) (says 0 0 0) counted is h
 
   pub given-lists :
       {r : Answer} → counted .number ≡ 0 → r ≡ verdict (verdict (nightTests n) (says 0 0 0) ∷ []) (listTest 3 (leb (length (n .inbound)) size)) →
-      r ≡ verdict (openTests n limit size) (says 0 0 0)
+      r ≡ verdict (firstTests n limit size) (says 0 0 0)
   given-lists {r} z e =
       let buffer : Answer = listTest 3 (leb (length (n .inbound)) size) in
       let last = last-is (leb (length (n .inbound)) size) (says 4 3 0) (suc-ne-zero 3) in
@@ -137,7 +137,7 @@ module _ (n : Night) (limit size : ℕ) {counted : Answer} (is : counted ≡ ver
       (ap (verdict (nightTests n)) last ∙ sym (verdict-append (nightTests n) (buffer ∷ []) (says 0 0 0)))))
 
 -- the answer of those tests: refused, it is that of derive; passed, the plan answers
-module _ (n : Night) (limit : ℕ) (before : List ℕ) {given : Answer} (is : given ≡ verdict (openTests n limit (length before)) (says 0 0 0)) where
+module _ (n : Night) (limit : ℕ) (before : List ℕ) {given : Answer} (is : given ≡ verdict (firstTests n limit (length before)) (says 0 0 0)) where
   pub given-passed : given .number ≡ 0 → DeriveGiven limits n limit (length before)
   given-passed z =
       let counted = passed-append (nightCounts limits n limit) (behind-counts n (length before)) .0 all in
@@ -153,8 +153,8 @@ module _ (n : Night) (limit : ℕ) (before : List ℕ) {given : Answer} (is : gi
       fits : Bool
       fits = leb (length (n .inbound)) (length before)
 
-      all : Passed (openTests n limit (length before))
-      all = verdict-passes (openTests n limit (length before)) (says 0 0 0) .0 (ap (λ (a : Answer). a .number) (sym is) ∙ z) .0
+      all : Passed (firstTests n limit (length before))
+      all = verdict-passes (firstTests n limit (length before)) (says 0 0 0) .0 (ap (λ (a : Answer). a .number) (sym is) ∙ z) .0
 
   own-tests : List Answer
   own-tests = limitTest (stepsNeeded n) limit ∷ roomTest (derivedPlan n) ∷ []
@@ -165,7 +165,7 @@ module _ (n : Night) (limit : ℕ) (before : List ℕ) {given : Answer} (is : gi
   pub derive-refused : (given .number ≡ 0 → ⊥) → Derives n limit before given before
   unfolding deriveAnswer own-tests done
   derive-refused h =
-      let same : given ≡ deriveAnswer limits n limit (length before) = stops-all (openTests n limit (length before)) own-tests done given is h in
+      let same : given ≡ deriveAnswer limits n limit (length before) = stops-all (firstTests n limit (length before)) own-tests done given is h in
       record {
         answer = same;
         codes =
@@ -175,5 +175,5 @@ module _ (n : Night) (limit : ℕ) (before : List ℕ) {given : Answer} (is : gi
   pub derive-planned : {r : Answer} {after : List ℕ} → given .number ≡ 0 → Planned n limit before r after → Derives n limit before r after
   unfolding deriveAnswer own-tests done
   derive-planned {r} z p =
-      let same : r ≡ deriveAnswer limits n limit (length before) = goes-on-all (openTests n limit (length before)) own-tests done given is r z (p .answer) in
+      let same : r ≡ deriveAnswer limits n limit (length before) = goes-on-all (firstTests n limit (length before)) own-tests done given is r z (p .answer) in
       record { answer = same; codes = p .codes ∙ ap (λ (a : Answer). written a (derivedCodes n) before) same }

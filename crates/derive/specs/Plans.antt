@@ -11,11 +11,11 @@ use Rattle.yard.specs.Derived.{stepsNeeded, derivedCodes, derivedPlan}
 use Rattle.yard.specs.Answers.{says, verdict, written, answers, bufferAsk, limitTest, roomTest}
 use Rattle.yard.specs.Calls.{opening}
 use Rattle.sorting.specs.Sums.{setBelow}
-use Rattle.sorting.specs.Closed.{fullTest}
+use Rattle.sorting.specs.Worked.{fullTest}
 
 -- the tests 1 to 4: those with which every call begins, and the buffer
-abbrev pub openTests : Night → ℕ → ℕ → List Answer
-openTests n limit size = answers (opening limits n limit [] (bufferAsk 3 (length (n .inbound)) size ∷ []))
+abbrev pub firstTests : Night → ℕ → ℕ → List Answer
+firstTests n limit size = answers (opening limits n limit [] (bufferAsk 3 (length (n .inbound)) size ∷ []))
 
 -- 6, or else the steps and the passes, worked out from the codes
 abbrev pub settled : ℕ → ℕ → List ℕ → Answer

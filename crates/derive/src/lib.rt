@@ -2,9 +2,11 @@
 use yard::Answer;
 use yard::Counts;
 ghost use mathlib.Core.Path.{_≡_};
+ghost use mathlib.Core.Bool.{false};
 ghost use mathlib.Core.List.{map};
-ghost use Prim.Native.Nat.{_≤_, _<_};
+ghost use Prim.Native.Nat.{_-_, _≤_, _<_};
 ghost use lib.ListN.{length};
+ghost use Rattle.yard.specs.Words.{tally};
 ghost use Rattle.yard.specs.Codes.{F, codeNumber};
 ghost use Rattle.yard.specs.Limits.{limits};
 ghost use Rattle.yard.specs.Answers.{says, verdict};
@@ -12,18 +14,19 @@ ghost use Rattle.yard.specs.Night.{nightOf, nightGiven};
 ghost use Rattle.yard.specs.Calls.{DeriveGiven, Derives};
 ghost use Rattle.yard.specs.Demands.{Within};
 ghost use Rattle.scan.specs.Front.{Under};
-ghost use Rattle.derive.specs.Plans.{openTests, Settles, Planned};
+ghost use Rattle.derive.specs.Plans.{firstTests, Settles, Planned};
 
-// Puts the usable code number q in the place of each number q.
-fn give(tracks: usize, steps: usize, numbers: &mut [u16])
-    requires { ⌜ Within 1 (limits .tracks) tracks × (steps ≤ limits .steps) × Under (F tracks steps) (now numbers) ⌝ }
-    ensures { λ _. ⌜ now (numbers .exit) ≡ map (codeNumber tracks steps) (now (numbers .entry)) ⌝ }
+// Puts the allowed code number q in the place of each number q: the usable code number q or, where the night is closed, number q + 1.
+fn give(closed: bool, tracks: usize, steps: usize, numbers: &mut [u16])
+    requires { ⌜ Within 1 (limits .tracks) tracks × (steps ≤ limits .steps) × Under (F tracks steps - tally closed) (now numbers) ⌝ }
+    ensures { λ _. ⌜ now (numbers .exit) ≡ map (codeNumber closed tracks steps) (now (numbers .entry)) ⌝ }
 {
     let mut table = [0u16; codes::CODES];
     codes::usable_codes(tracks, steps, &mut table);
+    let first = scan::tally(closed) as usize;
     for i in 0..numbers.len() {
         let q = numbers[i] as usize;
-        numbers[i] = table[q];
+        numbers[i] = table[q + first];
     }
 }
 
@@ -45,26 +48,27 @@ fn settle(room: usize, steps: usize, derived: &[u16], codes: &mut [u16]) -> Answ
 fn plan(
     lengths: &[u16],
     inbound: &[u16],
+    closed: bool,
     tracks: usize,
     room: usize,
     limit: usize,
     codes: &mut [u16],
 ) -> Answer
-    requires { ⌜ DeriveGiven limits (nightOf (now lengths) (now inbound) tracks room) limit (length (now codes)) ⌝ }
-    ensures { λ r. ⌜ Planned (nightOf (now (lengths .entry)) (now (inbound .entry)) tracks room) limit (now (codes .entry)) r (now (codes .exit)) ⌝ }
+    requires { ⌜ DeriveGiven limits (nightOf (now lengths) (now inbound) closed tracks room) limit (length (now codes)) ⌝ }
+    ensures { λ r. ⌜ Planned (nightOf (now (lengths .entry)) (now (inbound .entry)) closed tracks room) limit (now (codes .entry)) r (now (codes .exit)) ⌝ }
 {
     let mut derived = [0u16; yard::CARS];
     let most = breaks::numbers(lengths, inbound, &mut derived);
-    let steps = codes::fewest_steps(tracks, most);
+    let steps = codes::fewest_steps(tracks, most + scan::tally(closed) as usize);
     if limit < steps {
         return intake::answer(5, steps, 0);
     }
     let n = inbound.len();
-    give(tracks, steps, &mut derived[0..n]);
+    give(closed, tracks, steps, &mut derived[0..n]);
     settle(room, steps, &derived[0..n], codes)
 }
 
-// The tests 1 to 4 of a night, its step limit and the size of the buffer.
+// The tests 1 to 4 of a night, its step limit and the size of the buffer; they ask nothing of its mark.
 fn given(
     lengths: &[u16],
     inbound: &[u16],
@@ -73,7 +77,7 @@ fn given(
     limit: usize,
     size: usize,
 ) -> Answer
-    ensures { λ r. ⌜ r ≡ verdict (openTests (nightOf (now (lengths .entry)) (now (inbound .entry)) tracks room) limit size) (says 0 0 0) ⌝ }
+    ensures { λ r. ⌜ r ≡ verdict (firstTests (nightOf (now (lengths .entry)) (now (inbound .entry)) false tracks room) limit size) (says 0 0 0) ⌝ }
 {
     let counted = intake::counts(inbound.len(), lengths.len(), tracks, room, limit);
     if counted.number != 0 {
@@ -86,8 +90,14 @@ fn given(
 }
 
 // Derives the plan of a night within a step limit: its codes go to the lent buffer, its steps and passes into the answer.
-pub fn derive(lengths: &[u16], inbound: &[u16], counts: Counts, codes: &mut [u16]) -> Answer
-    ensures { λ r. ⌜ Derives (nightGiven (now (lengths .entry)) (now (inbound .entry)) counts) (counts .steps) (now (codes .entry)) r (now (codes .exit)) ⌝ }
+pub fn derive(
+    lengths: &[u16],
+    inbound: &[u16],
+    closed: bool,
+    counts: Counts,
+    codes: &mut [u16],
+) -> Answer
+    ensures { λ r. ⌜ Derives (nightGiven (now (lengths .entry)) (now (inbound .entry)) closed counts) (counts .steps) (now (codes .entry)) r (now (codes .exit)) ⌝ }
 {
     let refusal = given(
         lengths,
@@ -103,6 +113,7 @@ pub fn derive(lengths: &[u16], inbound: &[u16], counts: Counts, codes: &mut [u16
     plan(
         lengths,
         inbound,
+        closed,
         counts.tracks,
         counts.room,
         counts.steps,

@@ -1,7 +1,7 @@
 -- What callers learn from the answers of this crate: which counts and lists are not refused, and what the items of such an inbound list are.
 use mathlib.Core.Path.{_≡_, refl, ap}
 use mathlib.Core.Logic.{_↔_}
-use mathlib.Core.Bool.{_&&_}
+use mathlib.Core.Bool.{false, _&&_}
 use mathlib.Core.List.{List}
 use Prim.Native.Nat.{ℕ, _≤_, _<_}
 use native.Mathlib.Omega.{arith}
@@ -11,7 +11,7 @@ use lib.Seq.{getD-take, length-take-le}
 use Rattle.yard.specs.declared.Answer.{Answer}
 use Rattle.yard.specs.Limits.{Limits}
 use Rattle.yard.specs.Words.{count}
-use Rattle.yard.specs.Night.{Night, cars}
+use Rattle.yard.specs.Night.{Night, nightOf, cars}
 use Rattle.yard.specs.Answers.{says, verdict, countTest}
 use Rattle.yard.specs.Calls.{countTests, nightTests}
 use Rattle.yard.specs.Demands.{InLimits, Listed}
@@ -45,7 +45,7 @@ night-lists n = refl
 pub lists-listed : (lengths inbound : List ℕ) → (verdict (listTests lengths inbound) (says 0 0 0) .number ≡ 0) ↔ Listed lengths inbound
 lists-listed lengths inbound =
     let tests = tests-passed (listTests lengths inbound) in
-    let lists = lists-passed (record { lengths = lengths; inbound = inbound; tracks = 0; room = 0 }) in
+    let lists = lists-passed (nightOf lengths inbound false 0 0) in
     (λ e. lists .0 (tests .0 e), λ l. tests .1 (lists .1 l))
 
 -- Each car once: every item is a car, and no two are the same.

@@ -7,7 +7,7 @@ ghost use Prim.Native.Nat.{_^_, _≤_};
 ghost use lib.Dec.{leb};
 ghost use lib.ListN.{length, take, drop};
 ghost use Rattle.yard.specs.Limits.{limits};
-ghost use Rattle.yard.specs.Answers.{says, test, verdict, countTest, trainTest, sumTest, firstListing, inboundTest, listTest, codeTest};
+ghost use Rattle.yard.specs.Answers.{says, test, verdict, countTest, trainTest, sumTest, firstListing, inboundTest, listTest, codeTest, zeroTest};
 ghost use Rattle.yard.specs.Calls.{countTests};
 ghost use Rattle.intake.specs.Tests.{listTests};
 
@@ -153,6 +153,17 @@ pub fn codes(codes: &[u16], steps: usize) -> Answer
     if bound <= scan::largest(codes) as usize {
         let wide = scan::first_over(codes, bound);
         return test(codes.len() < wide, 7, wide);
+    }
+    answer(0, 0, 0)
+}
+
+// 14: no code 0 in a closed night, or else the first car with it.
+pub fn zeros(codes: &[u16], closed: bool) -> Answer
+    ensures { λ r. ⌜ r ≡ zeroTest closed (now (codes .entry)) ⌝ }
+{
+    if closed {
+        let zero = scan::first_with(0, codes);
+        return test(codes.len() < zero, 14, zero);
     }
     answer(0, 0, 0)
 }

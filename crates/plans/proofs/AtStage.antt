@@ -10,7 +10,7 @@ use Rattle.yard.specs.Limits.{limits}
 use Rattle.yard.specs.Night.{Plan, cars}
 use Rattle.yard.specs.Replay.{passes}
 use Rattle.yard.specs.Demands.{Listed, NeverEarly}
-use Rattle.yard.specs.Answers.{says, verdict, onto, countTest, listTest, codeTest, earlyTest, roomTest}
+use Rattle.yard.specs.Answers.{says, verdict, onto, countTest, listTest, codeTest, zeroTest, earlyTest, roomTest}
 use Rattle.yard.specs.Calls.{nightCounts, replayAnswer, carTracks, carPlaces, Replays}
 use Rattle.yard.proofs.calls.Verdict.{passed-append, verdict-passes, stops, goes-on, stops-all, goes-on-all, written-accepted, written-refused}
 use Rattle.yard.proofs.calls.Tests.{count-passed, list-passed}
@@ -21,7 +21,7 @@ use Rattle.sorting.specs.Sums.{setBelow}
 use Rattle.order.specs.Order.{sortedTo}
 use Rattle.order.proofs.Keys.{sortedTo-is}
 use Rattle.stage.specs.Stages.{trackBy, placeBy}
-use Rattle.plans.specs.Closed.{placedTests, Placeable, Placed}
+use Rattle.plans.specs.Worked.{placedTests, Placeable, Placed}
 use Rattle.plans.proofs.Stages.{by-car-same}
 use Rattle.plans.proofs.Replayed.{sound-is, passes-is}
 use Rattle.plans.proofs.Chain.{Tested, same-number, given, sound, Counts, counts-passed, given-passed, counted}
@@ -53,13 +53,13 @@ module _ (p : Plan) (stage : ℕ) (on at : List ℕ) where
   Ready = Placeable (p .night .lengths) (p .night .inbound) (p .codes) (p .night .tracks) (p .steps) stage on at
 
   plan-tests : List Answer
-  plan-tests = codeTest (p .steps) (p .codes) ∷ earlyTest p ∷ roomTest p ∷ []
+  plan-tests = codeTest (p .steps) (p .codes) ∷ zeroTest (p .night .closed) (p .codes) ∷ earlyTest p ∷ roomTest p ∷ []
 
   done : Answer
   done = says 0 (passes p stage) 0
 
-  closed-done : Answer
-  closed-done = says 0 (length (p .codes) + setBelow stage (p .codes)) 0
+  worked-done : Answer
+  worked-done = says 0 (length (p .codes) + setBelow stage (p .codes)) 0
 
   -- a refusal leaves both buffers as they were
   refused : {r : Answer} → (r .number ≡ 0 → ⊥) → r ≡ replayed → Replays p stage on at r on at
@@ -89,9 +89,9 @@ module _ (p : Plan) (stage : ℕ) (on at : List ℕ) where
       }
 
   -- the tests from 7 on, worked out from the codes
-  closed-replay : Ready → verdict (sound p) closed-done ≡ verdict plan-tests done
-  unfolding plan-tests done closed-done
-  closed-replay q =
+  worked-replay : Ready → verdict (sound p) worked-done ≡ verdict plan-tests done
+  unfolding plan-tests done worked-done
+  worked-replay q =
       sound-is p (q .lists) (q .tracks .0) (q .counted .each) _ _
       (λ formed never. ap (λ (n : ℕ). says 0 n 0) (passes-is p (q .lists) (q .tracks .0) (q .counted .each) formed never stage (q .upto)))
 
@@ -100,7 +100,7 @@ module _ (p : Plan) (stage : ℕ) (on at : List ℕ) where
   sound-never q is z =
       let all = verdict-passes (sound p) (says 0 0 0) .0 (sym (same-number is) ∙ z) .0 in
       let waits = early-test p (q .lists) (q .tracks .0) (q .counted .each) in
-      early-passed p (range-once (p .night .inbound) (q .lists .once)) .0 (same-number waits ∙ all .1 .0)
+      early-passed p (range-once (p .night .inbound) (q .lists .once)) .0 (same-number waits ∙ all .1 .1 .0)
 
   module _ {r₁ : Answer} (is₁ : Tested (nightCounts limits (p .night) (p .steps)) r₁) where
     -- an answer that the tests behind the counts give
@@ -129,21 +129,21 @@ module _ (p : Plan) (stage : ℕ) (on at : List ℕ) where
           pub replay-ready : Ready
           replay-ready = ready (counts-passed p is₁ z₁) (count-passed 6 0 (p .steps) stage .0 (sym (same-number is₂) ∙ z₂) .1) is₃ z₃
 
-          rest : {r : Answer} → r ≡ verdict (sound p) closed-done → r ≡ replayed
-          rest {r} is = past z₂ (goes-on-all placed plan-tests done r₃ is₃ r z₃ (is ∙ closed-replay replay-ready))
+          rest : {r : Answer} → r ≡ verdict (sound p) worked-done → r ≡ replayed
+          rest {r} is = past z₂ (goes-on-all placed plan-tests done r₃ is₃ r z₃ (is ∙ worked-replay replay-ready))
 
           module _ {r₄ : Answer} (is₄ : Tested (sound p) r₄) where
             pub replay-sound : (r₄ .number ≡ 0 → ⊥) → Replays p stage on at r₄ on at
-            replay-sound n = refused n (rest (stops-all (sound p) [] closed-done r₄ is₄ n))
+            replay-sound n = refused n (rest (stops-all (sound p) [] worked-done r₄ is₄ n))
 
             pub replay-stood : r₄ .number ≡ 0 → {r : Answer} → r ≡ says 0 (length (p .codes) + setBelow stage (p .codes)) 0 → {on₁ at₁ : List ℕ} →
                 Placed (p .night .lengths) (p .night .inbound) (p .codes) (p .night .tracks) (p .steps) stage on at on₁ at₁ →
                 Replays p stage on at r on₁ at₁
-            unfolding closed-done track
+            unfolding worked-done track
             replay-stood z₄ {r} is stood =
                 let q = replay-ready in
                 let never = sound-never q is₄ z₄ in
-                let e = rest (goes-on-all (sound p) [] closed-done r₄ is₄ r z₄ is) in
+                let e = rest (goes-on-all (sound p) [] worked-done r₄ is₄ r z₄ is) in
                 let zero : replayed .number ≡ 0 = sym (same-number e) ∙ same-number is in
                 record {
                   answer = e;

@@ -10,14 +10,14 @@ use Rattle.yard.specs.Limits.{limits}
 use Rattle.yard.specs.Night.{Plan}
 use Rattle.yard.specs.Replay.{passes, fullestPull}
 use Rattle.yard.specs.Demands.{InLimits, Listed}
-use Rattle.yard.specs.Answers.{says, verdict, listTest, codeTest, earlyTest, roomTest, orderTest}
+use Rattle.yard.specs.Answers.{says, verdict, listTest, codeTest, zeroTest, earlyTest, roomTest, orderTest}
 use Rattle.yard.specs.Calls.{nightTests, nightCounts, checkAnswer, Checks}
 use Rattle.yard.proofs.calls.Verdict.{passed-append, verdict-passes, stops-all, goes-on-all}
 use Rattle.yard.proofs.calls.Tests.{list-passed}
 use Rattle.yard.proofs.yards.Formed.{lists-passed}
 use Rattle.intake.proofs.Passed.{counts-within}
 use Rattle.sorting.specs.Sums.{setBelow, fullestOf}
-use Rattle.plans.specs.Closed.{givenTests, soundTests, pairTest, Counted}
+use Rattle.plans.specs.Worked.{givenTests, soundTests, pairTest, Counted}
 use Rattle.plans.proofs.Replayed.{sound-is, order-is}
 
 -- an answer of tests alone, and what is known of it
@@ -32,7 +32,7 @@ module _ (p : Plan) where
   given = givenTests (p .night .lengths) (p .night .inbound) (p .codes)
 
   abbrev pub sound : List Answer
-  sound = soundTests (p .night .tracks) (p .night .room) (p .steps) (p .codes)
+  sound = soundTests (p .night .closed) (p .night .tracks) (p .night .room) (p .steps) (p .codes)
 
   abbrev pub Counts : Type 0
   Counts = InLimits limits (length (p .night .inbound)) (length (p .night .lengths)) (p .night .tracks) (p .night .room) (p .steps)
@@ -58,20 +58,20 @@ module _ (p : Plan) where
   pairs = pairTest (p .night .lengths) (p .night .inbound) (p .codes)
 
   plan-tests : List Answer
-  plan-tests = codeTest (p .steps) (p .codes) ∷ earlyTest p ∷ roomTest p ∷ orderTest p ∷ []
+  plan-tests = codeTest (p .steps) (p .codes) ∷ zeroTest (p .night .closed) (p .codes) ∷ earlyTest p ∷ roomTest p ∷ orderTest p ∷ []
 
   done : Answer
   done = says 0 (passes p (p .steps)) (fullestPull p)
 
-  closed-done : Answer
-  closed-done = says 0 (length (p .codes) + setBelow (p .steps) (p .codes)) (fullestOf (p .codes) (p .steps))
+  worked-done : Answer
+  worked-done = says 0 (length (p .codes) + setBelow (p .steps) (p .codes)) (fullestOf (p .codes) (p .steps))
 
   -- the tests from 7 on, worked out from the lists
-  closed-check : Counts → Listed (p .night .lengths) (p .night .inbound) → length (p .codes) ≡ length (p .night .inbound) →
-      verdict (sound ++ (pairs ∷ [])) closed-done ≡ verdict plan-tests done
-  unfolding pairs plan-tests done closed-done
-  closed-check w f e =
-      sound-is p f (w .tracks .0) e (verdict (pairs ∷ []) closed-done) (verdict (orderTest p ∷ []) done)
+  worked-check : Counts → Listed (p .night .lengths) (p .night .inbound) → length (p .codes) ≡ length (p .night .inbound) →
+      verdict (sound ++ (pairs ∷ [])) worked-done ≡ verdict plan-tests done
+  unfolding pairs plan-tests done worked-done
+  worked-check w f e =
+      sound-is p f (w .tracks .0) e (verdict (pairs ∷ []) worked-done) (verdict (orderTest p ∷ []) done)
       (λ formed never. order-is p f (w .tracks .0) e formed never (w .cars .0))
 
   module _ {r₁ : Answer} (is₁ : Tested (nightCounts limits (p .night) (p .steps)) r₁) where
@@ -90,18 +90,18 @@ module _ (p : Plan) where
 
       module _ (z₂ : r₂ .number ≡ 0) where
         -- what the tests from 7 on say is the answer
-        rest : {r : Answer} → r ≡ verdict (sound ++ (pairs ∷ [])) closed-done → Checks p r
+        rest : {r : Answer} → r ≡ verdict (sound ++ (pairs ∷ [])) worked-done → Checks p r
         rest {r} is =
             let w = counts-passed is₁ z₁ in
             let g = given-passed is₂ z₂ in
-            behind z₁ (goes-on-all given plan-tests done r₂ is₂ r z₂ (is ∙ closed-check w (g .0) (g .1)))
+            behind z₁ (goes-on-all given plan-tests done r₂ is₂ r z₂ (is ∙ worked-check w (g .0) (g .1)))
 
         module _ {r₃ : Answer} (is₃ : Tested sound r₃) where
           pub check-sound : (r₃ .number ≡ 0 → ⊥) → Checks p r₃
-          check-sound n = rest (stops-all sound (pairs ∷ []) closed-done r₃ is₃ n)
+          check-sound n = rest (stops-all sound (pairs ∷ []) worked-done r₃ is₃ n)
 
           pub check-ordered : r₃ .number ≡ 0 → {r : Answer} →
               r ≡ verdict (pairTest (p .night .lengths) (p .night .inbound) (p .codes) ∷ [])
               (says 0 (length (p .codes) + setBelow (p .steps) (p .codes)) (fullestOf (p .codes) (p .steps))) → Checks p r
-          unfolding pairs closed-done
-          check-ordered z₃ {r} is = rest (goes-on-all sound (pairs ∷ []) closed-done r₃ is₃ r z₃ is)
+          unfolding pairs worked-done
+          check-ordered z₃ {r} is = rest (goes-on-all sound (pairs ∷ []) worked-done r₃ is₃ r z₃ is)

@@ -13,7 +13,7 @@ use Rattle.yard.specs.declared.Answer.{Answer}
 use Rattle.yard.specs.Words.{place, first, most, count, upFrom}
 use Rattle.yard.specs.Night.{Plan, cars, pair}
 use Rattle.yard.specs.Replay.{passes, pullSize, fullestPull, firstOverfull, codeOf}
-use Rattle.yard.specs.Answers.{says, test, verdict, roomTest, codeTest, earlyTest, orderTest, ruled, unruled}
+use Rattle.yard.specs.Answers.{says, test, verdict, roomTest, codeTest, zeroTest, earlyTest, orderTest, ruled, unruled}
 use Rattle.yard.specs.Demands.{Within, Listed, CodesFormed, NeverEarly}
 use Rattle.yard.proofs.general.First.{first-le, first-same}
 use Rattle.yard.proofs.general.Lists.{count-head, count-tail, upFrom-bounds}
@@ -26,8 +26,8 @@ use Rattle.yard.proofs.yards.EarlySearch.{early-test}
 use Rattle.yard.proofs.calls.Rights.{codes-passed}
 use Rattle.sorting.specs.Sums.{pullOf, setBelow, firstAbove, fullestOf}
 use Rattle.pairs.specs.Pairs.{unruledAt}
-use Rattle.sorting.specs.Closed.{waitTest, fullTest}
-use Rattle.plans.specs.Closed.{soundTests, firstPair, pairTest}
+use Rattle.sorting.specs.Worked.{waitTest, fullTest}
+use Rattle.plans.specs.Worked.{soundTests, firstPair, pairTest}
 
 -- verdicts that agree behind a test agree
 pub verdict-under : (t : Answer) (us vs : List Answer) (x y : Answer) → (t .number ≡ 0 → verdict us x ≡ verdict vs y) → verdict (t ∷ us) x ≡ verdict (t ∷ vs) y
@@ -108,20 +108,25 @@ module _ (p : Plan) (f : Listed (p .night .lengths) (p .night .inbound)) (pos : 
     order-is some = ap₂ (λ (t d : Answer). verdict (t ∷ []) d) (sym (pair-test some))
         (ap₂ (λ (a b : ℕ). says 0 a b) (passes-is (p .steps) (le-refl (p .steps))) fullest-is)
 
-  -- 7, 8 and 6, and what follows
+  -- 7, 14, 8 and 6, and what follows
   pub sound-is : (x y : Answer) → (CodesFormed p → NeverEarly p → x ≡ y)
-      → verdict (soundTests (p .night .tracks) (p .night .room) (p .steps) (p .codes)) x ≡ verdict
-      (codeTest (p .steps) (p .codes) ∷ earlyTest p ∷ roomTest p ∷ []) y
+      → verdict (soundTests (p .night .closed) (p .night .tracks) (p .night .room) (p .steps) (p .codes)) x ≡ verdict
+      (codeTest (p .steps) (p .codes) ∷ zeroTest (p .night .closed) (p .codes) ∷ earlyTest p ∷ roomTest p ∷ []) y
   sound-is x y e =
-      verdict-under (codeTest (p .steps) (p .codes)) (waits ∷ full ∷ []) (earlyTest p ∷ roomTest p ∷ []) x y
+      verdict-under (codeTest (p .steps) (p .codes)) (zeros ∷ waits ∷ full ∷ []) (zeros ∷ earlyTest p ∷ roomTest p ∷ []) x y
       (λ c.
       let formed : CodesFormed p = record { each = each; below = codes-passed (p .steps) (p .codes) .0 c } in
+      verdict-under zeros (waits ∷ full ∷ []) (earlyTest p ∷ roomTest p ∷ []) x y
+      (λ _.
       ap (λ (t : Answer). verdict (t ∷ full ∷ []) x) (sym (early-test p f pos each)) ∙
       verdict-under (earlyTest p) (full ∷ []) (roomTest p ∷ []) x y
       (λ n.
       let never : NeverEarly p = early-passed p (range-once (p .night .inbound) (f .once)) .0 n in
-      ap₂ (λ (t d : Answer). verdict (t ∷ []) d) (sym (room-full formed never)) (e formed never)))
+      ap₂ (λ (t d : Answer). verdict (t ∷ []) d) (sym (room-full formed never)) (e formed never))))
     where
+      zeros : Answer
+      zeros = zeroTest (p .night .closed) (p .codes)
+
       waits : Answer
       waits = waitTest (p .night .tracks) (p .steps) (p .codes)
 

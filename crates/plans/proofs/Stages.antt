@@ -22,7 +22,7 @@ use Rattle.order.specs.Order.{CarsOf, sortedTo, Keyed}
 use Rattle.stage.specs.Stages.{trackBy, placeBy, allTracks, Standable}
 use Rattle.trains.proofs.Filling.{item-within}
 use Rattle.order.proofs.Keys.{sortedTo-is, sortedTo-length}
-use Rattle.plans.specs.Closed.{Placeable, Placed}
+use Rattle.plans.specs.Worked.{Placeable, Placed}
 
 map-same : (f g : ℕ → ℕ) (l : List ℕ) → ((x : ℕ) → 0 < count x l → f x ≡ g x) → map f l ≡ map g l
 map-same f g [] e = refl

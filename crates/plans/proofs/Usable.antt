@@ -23,7 +23,7 @@ use Rattle.yard.specs.Waiting.{waits, lowestWaiting, someWaits, firstWaiting}
 use Rattle.codes.proofs.Gap.{usable-fewest}
 use Rattle.scan.specs.Front.{Under}
 use Rattle.codes.specs.Wider.{wider, firstWider}
-use Rattle.sorting.specs.Closed.{waitTest}
+use Rattle.sorting.specs.Worked.{waitTest}
 
 -- a car with a usable code waits for no later step on the track of this one
 kept-waits : (W h x s : ℕ) → Kept W h x → s < h → waits W h x s ≡ false

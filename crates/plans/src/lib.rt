@@ -13,9 +13,9 @@ ghost use Rattle.yard.specs.Calls.{Checks, Replays};
 ghost use Rattle.yard.specs.Demands.{Listed, CodesBelow};
 ghost use Rattle.sorting.specs.Early.{earlyFound};
 ghost use Rattle.sorting.specs.Sums.{setBelow, fullestOf};
-ghost use Rattle.sorting.specs.Closed.{earlyAnswer, waitTest, fullTest};
-ghost use Rattle.plans.specs.Closed.{givenTests, soundTests};
-ghost use Rattle.plans.specs.Closed.{firstPair, pairTest, Counted, placedTests, Placeable, Placed};
+ghost use Rattle.sorting.specs.Worked.{earlyAnswer, waitTest, fullTest};
+ghost use Rattle.plans.specs.Worked.{givenTests, soundTests};
+ghost use Rattle.plans.specs.Worked.{firstPair, pairTest, Counted, placedTests, Placeable, Placed};
 
 // 2, 3 and 4: the lists of a plan.
 fn given(lengths: &[u16], inbound: &[u16], codes: &[u16]) -> Answer
@@ -62,14 +62,25 @@ fn full(codes: &[u16], fullest: usize, room: usize, steps: usize) -> Answer
     }
 }
 
-// 7, 8 and 6: what the codes alone can break, with their fullest pull.
-fn sound(codes: &[u16], fullest: usize, tracks: usize, room: usize, steps: usize) -> Answer
+// 7, 14, 8 and 6: what the codes alone can break, with their fullest pull.
+fn sound(
+    codes: &[u16],
+    fullest: usize,
+    closed: bool,
+    tracks: usize,
+    room: usize,
+    steps: usize,
+) -> Answer
     requires { ⌜ (0 < tracks) × (steps ≤ limits .steps) × (length (now codes) ≤ limits .cars) × (fullest ≡ fullestOf (now codes) steps) ⌝ }
-    ensures { λ r. ⌜ r ≡ verdict (soundTests tracks room steps (now (codes .entry))) (says 0 0 0) ⌝ }
+    ensures { λ r. ⌜ r ≡ verdict (soundTests closed tracks room steps (now (codes .entry))) (says 0 0 0) ⌝ }
 {
     let below = intake::codes(codes, steps);
     if below.number != 0 {
         return below;
+    }
+    let moved = intake::zeros(codes, closed);
+    if moved.number != 0 {
+        return moved;
     }
     let pulled = kept(codes, tracks, steps);
     if pulled.number != 0 {
@@ -103,9 +114,16 @@ fn ordered(lengths: &[u16], inbound: &[u16], codes: &[u16], fullest: usize, step
     intake::answer(0, sorting::passes(codes, steps), fullest)
 }
 
-// A plan is accepted exactly if its lists and codes are well formed and its replay pulls no car early, overfills no track and builds every train in order.
-pub fn check(lengths: &[u16], inbound: &[u16], codes: &[u16], counts: Counts) -> Answer
-    ensures { λ r. ⌜ Checks (planGiven (now (lengths .entry)) (now (inbound .entry)) (now (codes .entry)) counts) r ⌝ }
+// A plan is accepted exactly if its lists and codes are well formed and its replay keeps the destinations of a closed night clear until
+// the first pull, pulls no car early, overfills no track and builds every train in order.
+pub fn check(
+    lengths: &[u16],
+    inbound: &[u16],
+    codes: &[u16],
+    closed: bool,
+    counts: Counts,
+) -> Answer
+    ensures { λ r. ⌜ Checks (planGiven (now (lengths .entry)) (now (inbound .entry)) (now (codes .entry)) closed counts) r ⌝ }
 {
     let counted = intake::counts(
         inbound.len(),
@@ -122,7 +140,14 @@ pub fn check(lengths: &[u16], inbound: &[u16], codes: &[u16], counts: Counts) ->
         return listed;
     }
     let fullest = sorting::fullest(codes, counts.steps);
-    let replayed = sound(codes, fullest, counts.tracks, counts.room, counts.steps);
+    let replayed = sound(
+        codes,
+        fullest,
+        closed,
+        counts.tracks,
+        counts.room,
+        counts.steps,
+    );
     if replayed.number != 0 {
         return replayed;
     }
@@ -172,12 +197,13 @@ pub fn replay(
     lengths: &[u16],
     inbound: &[u16],
     codes: &[u16],
+    closed: bool,
     counts: Counts,
     stage: usize,
     on: &mut [u16],
     at: &mut [u16],
 ) -> Answer
-    ensures { λ r. ⌜ Replays (planGiven (now (lengths .entry)) (now (inbound .entry)) (now (codes .entry)) counts) stage (now (on .entry))
+    ensures { λ r. ⌜ Replays (planGiven (now (lengths .entry)) (now (inbound .entry)) (now (codes .entry)) closed counts) stage (now (on .entry))
         (now (at .entry)) r (now (on .exit)) (now (at .exit)) ⌝ }
 {
     let counted = intake::counts(
@@ -199,7 +225,14 @@ pub fn replay(
         return listed;
     }
     let fullest = sorting::fullest(codes, counts.steps);
-    let replayed = sound(codes, fullest, counts.tracks, counts.room, counts.steps);
+    let replayed = sound(
+        codes,
+        fullest,
+        closed,
+        counts.tracks,
+        counts.room,
+        counts.steps,
+    );
     if replayed.number != 0 {
         return replayed;
     }

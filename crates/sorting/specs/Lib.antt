@@ -1,4 +1,4 @@
 -- What the contracts of this crate cite besides the yard's written meaning.
 pub mod Sums
 pub mod Early
-pub mod Closed
+pub mod Worked

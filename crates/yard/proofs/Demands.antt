@@ -21,7 +21,7 @@ use Rattle.yard.proofs.yards.Least.{least-steps}
 use Rattle.yard.proofs.yards.DerivedPlan.{derived-sorts}
 use Rattle.yard.proofs.calls.Asks.{Sound, Unnamed, holds-append, sound-append, fails-past, fails-at, accepted-exactly, refused-exactly, refused-at}
 use Rattle.yard.proofs.calls.Rights.{count-right, length-right, buffer-right, train-right, sum-right, inbound-right, code-right, early-right}
-use Rattle.yard.proofs.calls.Rights.{bad-not-once, room-right, overfull-full, order-right, limit-right}
+use Rattle.yard.proofs.calls.Rights.{bad-not-once, zero-right, room-right, overfull-full, order-right, limit-right}
 
 -- ---- what the opening asks yields, by name
 
@@ -132,10 +132,13 @@ module _ (L : Limits) (p : Plan) where
         λ each. (
           code-right (p .steps) (p .codes),
           λ below. (
-            early-right p (range-once (p .night .inbound) (given .lists .once)),
-            λ never. (
-              room-right p,
-              λ _. (order-right p (given .lists) (record { each = each; below = below }) never (given .counts .cars .0), λ _. tt),
+            zero-right p (given .lists) (given .counts .tracks .0) (record { each = each; below = below }),
+            λ _. (
+              early-right p (range-once (p .night .inbound) (given .lists .once)),
+              λ never. (
+                room-right p,
+                λ _. (order-right p (given .lists) (record { each = each; below = below }) never (given .counts .cars .0), λ _. tt),
+              ),
             ),
           ),
         ),
@@ -148,10 +151,11 @@ module _ (L : Limits) (p : Plan) where
             let (given, _, more) = opened .0 all in
             let (each, more) = more in
             let (below, more) = more in
+            let (clear, more) = more in
             let (never, more) = more in
             let (room, more) = more in
-            record { given = given; each = each; below = below; never = never; room = room; builds = more .0 },
-        λ g. opened .1 (g .given, tt, (g .each, (g .below, (g .never, (g .room, (g .builds, tt)))))),
+            record { given = given; each = each; below = below; clear = clear; never = never; room = room; builds = more .0 },
+        λ g. opened .1 (g .given, tt, (g .each, (g .below, (g .clear, (g .never, (g .room, (g .builds, tt))))))),
       )
 
   -- check accepts exactly if lists and codes are well formed and the replay pulls no car early, overfills no track and builds
@@ -184,13 +188,16 @@ module _ (L : Limits) (p : Plan) (stage trackSize placeSize : ℕ) where
       opening-sound L (p .night) (p .steps) (countAsk 6 0 (p .steps) stage ∷ []) (replayOwn p trackSize placeSize) (count-right 6 0 (p .steps) stage, λ _. tt)
       (λ given. (
         length-right 3 (length (p .codes)) n,
-        λ _. (
+        λ each. (
           buffer-right 4 n trackSize,
           λ _. (
             buffer-right 5 n placeSize,
             λ _. (
               code-right (p .steps) (p .codes),
-              λ _. (early-right p (range-once (p .night .inbound) (given .lists .once)), λ _. (room-right p, λ _. tt)),
+              λ below. (
+                zero-right p (given .lists) (given .counts .tracks .0) (record { each = each; below = below }),
+                λ _. (early-right p (range-once (p .night .inbound) (given .lists .once)), λ _. (room-right p, λ _. tt)),
+              ),
             ),
           ),
         ),
@@ -205,9 +212,20 @@ module _ (L : Limits) (p : Plan) (stage trackSize placeSize : ℕ) where
             let (tracks, more) = more in
             let (places, more) = more in
             let (below, more) = more in
+            let (clear, more) = more in
             let (never, more) = more in
-            record { given = given; reached = own .0; each = each; tracks = tracks; places = places; below = below; never = never; room = more .0 },
-        λ r. opened .1 (r .given, (r .reached, tt), (r .each, (r .tracks, (r .places, (r .below, (r .never, (r .room, tt))))))),
+            record {
+              given = given;
+              reached = own .0;
+              each = each;
+              tracks = tracks;
+              places = places;
+              below = below;
+              clear = clear;
+              never = never;
+              room = more .0;
+            },
+        λ r. opened .1 (r .given, (r .reached, tt), (r .each, (r .tracks, (r .places, (r .below, (r .clear, (r .never, (r .room, tt)))))))),
       )
 
   pub replay-accepts-exactly : (replayAnswer L p stage trackSize placeSize .number ≡ 0) ↔ Replayable L p stage trackSize placeSize

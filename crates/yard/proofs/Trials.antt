@@ -3,23 +3,23 @@
 use mathlib.Core.Path.{_≡_, refl}
 use mathlib.Core.Bool.{true}
 use Rattle.yard.specs.Replay.{yardAt, passes, pulled, pullSize, fullestPull, early, lowestEarly, firstEarly, firstOverfull, built, inOrder}
-use Rattle.yard.specs.Codes.{usable, usableCodes, codeNumber, fewestSteps, fewestTracks}
+use Rattle.yard.specs.Codes.{usable, allowed, allowedCodes, codeNumber, fewestSteps, fewestTracks}
 use Rattle.yard.specs.Derived.{stepsNeeded, derivedCodes, derivedPlan}
 use Rattle.yard.specs.Calls.{deriveAnswer, checkAnswer}
 use Rattle.yard.specs.Card.{layout, fields, card}
 use Rattle.yard.specs.Trials.{trials, tables, requests, agree}
 
 pub trials-agree : agree trials ≡ true
-unfolding trials deriveAnswer checkAnswer stepsNeeded derivedCodes derivedPlan usable usableCodes codeNumber fewestSteps yardAt passes
+unfolding trials deriveAnswer checkAnswer stepsNeeded derivedCodes derivedPlan usable allowed allowedCodes codeNumber fewestSteps yardAt passes
     pulled pullSize fullestPull early lowestEarly firstEarly firstOverfull built inOrder
 trials-agree = refl
 
 pub tables-agree : agree tables ≡ true
-unfolding tables layout card fields derivedPlan stepsNeeded derivedCodes usable usableCodes codeNumber fewestSteps fewestTracks yardAt
+unfolding tables layout card fields derivedPlan stepsNeeded derivedCodes usable allowed allowedCodes codeNumber fewestSteps fewestTracks yardAt
     pulled early lowestEarly firstEarly
 tables-agree = refl
 
 pub requests-agree : agree requests ≡ true
-unfolding requests deriveAnswer checkAnswer stepsNeeded derivedCodes derivedPlan usable usableCodes codeNumber fewestSteps yardAt passes
+unfolding requests deriveAnswer checkAnswer stepsNeeded derivedCodes derivedPlan usable allowed allowedCodes codeNumber fewestSteps yardAt passes
     pulled pullSize fullestPull early lowestEarly firstEarly firstOverfull built inOrder
 requests-agree = refl

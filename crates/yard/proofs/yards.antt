@@ -9,7 +9,9 @@ pub mod Counting
 pub mod Trains
 pub mod Formed
 pub mod Plans
+pub mod Allowed
 pub mod Building
+pub mod Clear
 pub mod Least
 pub mod DerivedPlan
 pub mod PullOuts

@@ -13,8 +13,8 @@ use Rattle.yard.specs.Words.{listed, first}
 use Rattle.yard.specs.Night.{Night, Plan, sum, itemOf, pair, broken}
 use Rattle.yard.specs.Replay.{codeOf, pullSize, lowestEarly, firstEarly, firstOverfull, inOrder}
 use Rattle.yard.specs.Derived.{stepsNeeded}
-use Rattle.yard.specs.Demands.{Least, Within, NoneEmpty, EachOnce, CodesBelow, NeverEarly, HasRoom, BuildsTrains, Sortable, EmptyTrain}
-use Rattle.yard.specs.Demands.{WideCode, BadPlace, ListedAt, TakesEarly, EarlyStep, OverfullStep, BreaksRule}
+use Rattle.yard.specs.Demands.{Least, Within, NoneEmpty, EachOnce, CodesBelow, KeepsClear, NeverEarly, HasRoom, BuildsTrains, Sortable}
+use Rattle.yard.specs.Demands.{EmptyTrain, WideCode, ZeroCode, BadPlace, ListedAt, TakesEarly, EarlyStep, OverfullStep, BreaksRule}
 
 -- a number and its two details
 abbrev pub says : ℕ → ℕ → ℕ → Answer
@@ -166,6 +166,16 @@ codeAsk h codes = leastOf 7 (ltb (length codes) (wideCode h codes)) (wideCode h 
 
 abbrev pub codeTest : ℕ → List ℕ → Answer
 codeTest h codes = answered (codeAsk h codes)
+
+-- 14: a zero code in a closed night, A the first such car: it would roll to its destination before the first pull
+abbrev pub noZero : Bool → List ℕ → Bool
+noZero closed codes = not closed || ltb (length codes) (firstWith 0 codes)
+
+abbrev pub zeroAsk : Plan → Ask
+zeroAsk p = leastOf 14 (noZero (p .night .closed) (p .codes)) (firstWith 0 (p .codes)) (KeepsClear p) (ZeroCode p)
+
+abbrev pub zeroTest : Bool → List ℕ → Answer
+zeroTest closed codes = test (noZero closed codes) (says 14 (firstWith 0 codes) 0)
 
 -- 8: a car pulled early, A the lowest car of the first such step, B that step
 abbrev pub earlyAsk : Plan → Ask

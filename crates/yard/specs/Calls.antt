@@ -9,9 +9,9 @@ use Rattle.yard.specs.Limits.{Limits, limits}
 use Rattle.yard.specs.Night.{Night, Plan, cars}
 use Rattle.yard.specs.Replay.{passes, fullestPull, trackOf, placeOf}
 use Rattle.yard.specs.Derived.{stepsNeeded, derivedCodes, derivedPlan}
-use Rattle.yard.specs.Demands.{Within, Given, CodesBelow, NeverEarly, HasRoom, BuildsTrains, Sortable}
+use Rattle.yard.specs.Demands.{Within, Given, CodesBelow, KeepsClear, NeverEarly, HasRoom, BuildsTrains, Sortable}
 use Rattle.yard.specs.Answers.{says, verdict, written, Ask, answers, countAsk, trainAsk, sumAsk, inboundAsk, lengthAsk, bufferAsk, limitAsk}
-use Rattle.yard.specs.Answers.{roomAsk, codeAsk, earlyAsk, orderAsk}
+use Rattle.yard.specs.Answers.{roomAsk, codeAsk, zeroAsk, earlyAsk, orderAsk}
 
 -- 1 for the cars, trains, tracks, room and steps (or step limit) of a call; 2 and 3 for its lists
 abbrev pub countAsks : Limits → ℕ → ℕ → ℕ → ℕ → ℕ → List Ask
@@ -79,6 +79,7 @@ abbrev pub checkOwn : Plan → List Ask
 checkOwn p =
     lengthAsk 3 (length (p .codes)) (length (p .night .inbound)) ∷
     codeAsk (p .steps) (p .codes) ∷
+    zeroAsk p ∷
     earlyAsk p ∷
     roomAsk p ∷
     orderAsk p ∷
@@ -97,12 +98,13 @@ checkAnswer L p = verdict (checkTests L p) (says 0 (passes p (p .steps)) (fulles
 pub record Checks (p : Plan) (r : Answer) : Type 0 where
   pub answer : r ≡ checkAnswer limits p
 
--- all that check asks: the lists and codes are well formed, and the replay pulls no car early, overfills no track and builds every
--- train in order
+-- all that check asks: the lists and codes are well formed, and the replay keeps the destinations of a closed night clear until the
+-- first pull, pulls no car early, overfills no track and builds every train in order
 pub record GoodPlan (L : Limits) (p : Plan) : Type 0 where
   pub given : Given L (p .night) (p .steps)
   pub each : length (p .codes) ≡ length (p .night .inbound)
   pub below : CodesBelow (p .steps) (p .codes)
+  pub clear : KeepsClear p
   pub never : NeverEarly p
   pub room : HasRoom p
   pub builds : BuildsTrains p
@@ -114,6 +116,7 @@ replayOwn p trackSize placeSize =
     bufferAsk 4 (length (p .night .inbound)) trackSize ∷
     bufferAsk 5 (length (p .night .inbound)) placeSize ∷
     codeAsk (p .steps) (p .codes) ∷
+    zeroAsk p ∷
     earlyAsk p ∷
     roomAsk p ∷
     []
@@ -136,6 +139,7 @@ pub record Replayable (L : Limits) (p : Plan) (stage trackSize placeSize : ℕ) 
   pub tracks : length (p .night .inbound) ≤ trackSize
   pub places : length (p .night .inbound) ≤ placeSize
   pub below : CodesBelow (p .steps) (p .codes)
+  pub clear : KeepsClear p
   pub never : NeverEarly p
   pub room : HasRoom p
 

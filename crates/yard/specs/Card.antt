@@ -1,7 +1,7 @@
 -- The night card: one layout of widths, from which writer and reader are both read.
 use Prim.Native.Nat.{ℕ, _≤_}
 use mathlib.Core.Path.{_≡_}
-use mathlib.Core.Bool.{Bool, true, cond, _&&_}
+use mathlib.Core.Bool.{Bool, true, false, cond, _&&_}
 use mathlib.Core.List.{List, [], _∷_, _++_}
 use lib.Dec.{leb, eqb}
 use lib.ListN.{length, getD, take, drop, replicate}
@@ -73,7 +73,7 @@ fields p = headFields (headOf p) ++ (p .night .lengths ++ (p .night .inbound ++ 
 unfoldable pub card : Plan → List ℕ
 card p = toBytes (packed (widths (headOf p)) (fields p))
 
--- The writer: a plan, and a lent buffer for the card.
+-- The writer: a plan of an open night, since a card of edition 1 tells no other, and a lent buffer for the card.
 abbrev pub writerOwn : Plan → ℕ → List Ask
 writerOwn p size =
     lengthAsk 3 (length (p .codes)) (length (p .night .inbound)) ∷
@@ -102,7 +102,7 @@ pub record Writes (p : Plan) (before : List ℕ) (r : Answer) (after : List ℕ)
   pub answer : r ≡ writerAnswer limits p (length before)
   pub bytes : after ≡ written (writerAnswer limits p (length before)) (card p) before
 
--- What bytes say: the numbers at the head, the lists behind it, and the plan that they give.
+-- What bytes say: the numbers at the head, the lists behind it, and the plan that they give. Edition 1 means an open night.
 unfoldable pub headOn : List ℕ → Head
 headOn bytes = headFrom (unpacked (headWidths (layout (fromBits 4 (bitsOf bytes)))) (bitsOf bytes))
 
@@ -116,7 +116,7 @@ cardPlan bytes =
     let h = headOn bytes in
     let lengths = take (h .trains) (listsOn bytes) in
     let byCar = drop (h .trains) (listsOn bytes) in
-    planOf lengths (take (h .cars) byCar) (h .tracks) (h .room) (h .steps) (drop (h .cars) byCar)
+    planOf lengths (take (h .cars) byCar) false (h .tracks) (h .room) (h .steps) (drop (h .cars) byCar)
 
 -- the card's right length; the bits behind its last field are all 0, and it has no byte more
 unfoldable pub rightLength : List ℕ → ℕ
@@ -183,7 +183,7 @@ pub record Readable (L : Limits) (bytes : List ℕ) (lengthsSize inboundSize cod
 unfoldable pub readerVerdict : Limits → List ℕ → ℕ → ℕ → ℕ → Answer
 readerVerdict L bytes lengthsSize inboundSize codesSize = verdict (readerTests L bytes lengthsSize inboundSize codesSize) (says 0 0 0)
 
--- the verdict, and the numbers of a head: the card's where it accepts, and 0 for each where it refuses
+-- the verdict, the mark of edition 1 as a number, and the numbers of a head: the card's where it accepts, and 0 for each where it refuses
 abbrev pub noHead : Head
 noHead = headFrom []
 
@@ -193,6 +193,7 @@ readerSays v h =
       number = v .number;
       a = v .a;
       b = v .b;
+      mark = 0;
       steps = h .steps;
       tracks = h .tracks;
       room = h .room;

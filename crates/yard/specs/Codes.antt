@@ -1,18 +1,18 @@
--- Usable codes, how many there are, the code number q, the fewest steps, and the fewest tracks of a code.
+-- Usable codes and how many there are, the codes that a night allows, the fewest steps, and the fewest tracks of a code.
 use Prim.Native.Nat.{ℕ, zero, suc, _+_, _^_}
-use mathlib.Core.Bool.{Bool}
+use mathlib.Core.Bool.{Bool, false, not, _&&_}
 use mathlib.Core.List.{List, [], _∷_}
 use lib.Dec.{leb, eqb}
 use lib.ListN.{getD, take}
 use Rattle.yard.specs.Words.{keep, upFrom, first}
-use Rattle.yard.specs.Night.{Plan, sum}
+use Rattle.yard.specs.Night.{Plan, nightOf, sum}
 use Rattle.yard.specs.Replay.{firstEarly}
 
 -- a lone car with a code, on W tracks and in h steps
 abbrev pub lone : ℕ → ℕ → ℕ → Plan
 lone W h code =
     record {
-      night = record { lengths = 1 ∷ []; inbound = 1 ∷ []; tracks = W; room = 1 };
+      night = nightOf (1 ∷ []) (1 ∷ []) false W 1;
       steps = h;
       codes = code ∷ [];
     }
@@ -21,12 +21,21 @@ lone W h code =
 unfoldable pub usable : ℕ → ℕ → ℕ → Bool
 usable W h code = eqb (firstEarly (lone W h code)) h
 
--- the usable codes of h steps, counted upward from 0, and the code number q
+-- the usable codes of h steps, counted upward from 0
 unfoldable pub usableCodes : ℕ → ℕ → List ℕ
 usableCodes W h = keep (usable W h) (upFrom 0 (2 ^ h))
 
-unfoldable pub codeNumber : ℕ → ℕ → ℕ → ℕ
-codeNumber W h q = getD (usableCodes W h) q 0
+-- the codes that a night allows, by its mark and its tracks: the usable ones, but not 0 where it is closed, since a car with code 0
+-- rolls to its destination at once
+unfoldable pub allowed : Bool → ℕ → ℕ → ℕ → Bool
+allowed closed W h code = usable W h code && not (closed && eqb code 0)
+
+-- the allowed codes of h steps, counted upward, and the code number q among them, the first being number 0
+unfoldable pub allowedCodes : Bool → ℕ → ℕ → List ℕ
+allowedCodes closed W h = keep (allowed closed W h) (upFrom 0 (2 ^ h))
+
+unfoldable pub codeNumber : Bool → ℕ → ℕ → ℕ → ℕ
+codeNumber closed W h q = getD (allowedCodes closed W h) q 0
 
 -- a(p), a(p - 1), .. a(0), a(-1) at p + 1: a(-1) is 1, what lies below is 0, and a(p) is the sum of the W before it
 abbrev pub descending : ℕ → ℕ → List ℕ

@@ -1,15 +1,15 @@
 -- What the demands speak of, in plain statements: a well-formed night, well-formed codes, what a good replay does, and
 -- what makes a place, a step or a pair bad.
-use Prim.Native.Nat.{ℕ, suc, _≤_, _<_, _^_}
+use Prim.Native.Nat.{ℕ, suc, _+_, _-_, _≤_, _<_, _^_}
 use mathlib.Core.Path.{_≡_}
 use mathlib.Core.Logic.{_⊎_}
 use mathlib.Core.Bool.{true, false}
-use mathlib.Core.List.{List}
+use mathlib.Core.List.{List, []}
 use lib.ListN.{length}
 use Rattle.yard.specs.Words.{count}
 use Rattle.yard.specs.Limits.{Limits}
 use Rattle.yard.specs.Night.{Night, Plan, cars, sum, itemOf, pair, broken, carsOf}
-use Rattle.yard.specs.Replay.{bit, codeOf, pulled, pullSize, built}
+use Rattle.yard.specs.Replay.{bit, codeOf, yardAt, pulled, pullSize, built}
 
 -- x is the least number of which P holds
 pub record Least (P : ℕ → Type 0) (x : ℕ) : Type 0 where
@@ -39,6 +39,11 @@ NeverEarly p = (k : ℕ) → k < p .steps → (car : ℕ) → 0 < count car (pul
 -- the replay never finds more on a sorting track than it has room for when its step comes
 unfoldable pub HasRoom : Plan → Type 0
 HasRoom p = (k : ℕ) → k < p .steps → pullSize p k ≤ p .night .room
+
+-- the replay of a closed night rolls no car to a destination before the first pull: at stage 0 those tracks are empty
+unfoldable pub KeepsClear : Plan → Type 0
+KeepsClear p =
+    p .night .closed ≡ true → (t : ℕ) → Within 1 (length (p .night .lengths)) t → yardAt p 0 .standing (p .night .tracks + t - 1) ≡ []
 
 -- the replay leaves every train on its destination track, in order
 unfoldable pub BuildsTrains : Plan → Type 0
@@ -74,6 +79,10 @@ EmptyTrain lengths t = Within 1 (length lengths) t × (itemOf lengths t ≡ 0)
 
 abbrev pub WideCode : ℕ → List ℕ → ℕ → Type 0
 WideCode h codes car = Within 1 (length codes) car × (2 ^ h ≤ itemOf codes car)
+
+-- a car of a closed night whose code is 0, so that it would roll to its destination at once
+abbrev pub ZeroCode : Plan → ℕ → Type 0
+ZeroCode p car = (p .night .closed ≡ true) × Within 1 (length (p .codes)) car × (codeOf p car ≡ 0)
 
 -- the number at place k is that of a car; it was met before, at place j; a place with a number out of range or met before
 abbrev pub CarAt : List ℕ → ℕ → Type 0
@@ -124,9 +133,10 @@ BreaksRule p c =
     (j : ℕ) × (c ≡ suc j) × Within 1 (length (p .night .inbound)) j × Within 1 (length (p .night .inbound)) c ×
     (pair (p .night .lengths) j ≡ true) × (Ruled p j → ⊥)
 
--- room aside, a plan that builds the trains of its night; and a night for which one keeps to a step limit, whatever codes it gives
+-- room aside, a plan that builds the trains of its night, and in a closed one keeps its destinations clear until the first pull; and a night for which one keeps to a step limit, whatever codes it gives
 pub record Sorts (p : Plan) : Type 0 where
   pub codes : CodesFormed p
+  pub clear : KeepsClear p
   pub never : NeverEarly p
   pub builds : BuildsTrains p
 

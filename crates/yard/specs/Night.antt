@@ -1,16 +1,18 @@
 -- The night and the plan; trains, pairs and breaks. Cars, trains and places in a list count from 1, tracks and steps from 0.
 use Prim.Native.Nat.{ℕ, suc, _+_, _-_}
-use mathlib.Core.Bool.{Bool, cond}
+use mathlib.Core.Bool.{Bool, cond, not}
 use mathlib.Core.List.{List, [], _∷_}
 use lib.Dec.{leb, ltb, eqb}
 use lib.ListN.{length, getD, take}
 use Rattle.yard.specs.declared.Counts.{Counts}
 use Rattle.yard.specs.Words.{total, most, keep, place, upFrom}
 
--- A night: the lengths of the outbound trains, the inbound order of the cars, the sorting tracks and the room on each.
+-- A night: the lengths of the outbound trains, the inbound order of the cars, its mark, the sorting tracks and the room on each. Its
+-- mark says whether it is closed, so that the destination tracks serve other work until the first pull, or open.
 pub record Night : Type 0 where
   pub lengths : List ℕ
   pub inbound : List ℕ
+  pub closed : Bool
   pub tracks : ℕ
   pub room : ℕ
 
@@ -21,18 +23,24 @@ pub record Plan : Type 0 where
   pub codes : List ℕ
 
 -- the night and the plan of what a call is given
-abbrev pub nightOf : List ℕ → List ℕ → ℕ → ℕ → Night
-nightOf lengths inbound tracks room = record { lengths = lengths; inbound = inbound; tracks = tracks; room = room }
+abbrev pub nightOf : List ℕ → List ℕ → Bool → ℕ → ℕ → Night
+nightOf lengths inbound closed tracks room =
+    record { lengths = lengths; inbound = inbound; closed = closed; tracks = tracks; room = room }
 
-abbrev pub planOf : List ℕ → List ℕ → ℕ → ℕ → ℕ → List ℕ → Plan
-planOf lengths inbound tracks room steps codes = record { night = nightOf lengths inbound tracks room; steps = steps; codes = codes }
+abbrev pub planOf : List ℕ → List ℕ → Bool → ℕ → ℕ → ℕ → List ℕ → Plan
+planOf lengths inbound closed tracks room steps codes =
+    record { night = nightOf lengths inbound closed tracks room; steps = steps; codes = codes }
 
 -- the same where a caller gives the counts by name
-abbrev pub nightGiven : List ℕ → List ℕ → Counts → Night
-nightGiven lengths inbound counts = nightOf lengths inbound (counts .tracks) (counts .room)
+abbrev pub nightGiven : List ℕ → List ℕ → Bool → Counts → Night
+nightGiven lengths inbound closed counts = nightOf lengths inbound closed (counts .tracks) (counts .room)
 
-abbrev pub planGiven : List ℕ → List ℕ → List ℕ → Counts → Plan
-planGiven lengths inbound codes counts = planOf lengths inbound (counts .tracks) (counts .room) (counts .steps) codes
+abbrev pub planGiven : List ℕ → List ℕ → List ℕ → Bool → Counts → Plan
+planGiven lengths inbound codes closed counts = planOf lengths inbound closed (counts .tracks) (counts .room) (counts .steps) codes
+
+-- the mark as a number, as a caller in C gives it and a card tells it: 0 is open, every other number closed
+abbrev pub closedBy : ℕ → Bool
+closedBy mark = not (eqb mark 0)
 
 -- the cars of a list by car, 1 to n
 abbrev pub cars : ℕ → List ℕ

@@ -1,7 +1,7 @@
 -- The trial nights of document 01 that are marked P, and nights of document 02: what the written meaning says, beside what the
 -- documents say.
 use Prim.Native.Nat.{ℕ, _+_, _-_}
-use mathlib.Core.Bool.{Bool, true, _&&_}
+use mathlib.Core.Bool.{Bool, true, false, _&&_}
 use mathlib.Core.List.{List, [], _∷_, _++_, map, reverse}
 use lib.ListN.{length, take}
 use Rattle.yard.specs.declared.Answer.{Answer}
@@ -22,10 +22,14 @@ pub record Trial : Type 0 where
   pub document : List ℕ
 
 nightN : ℕ → ℕ → Night
-nightN W C = nightOf (6 ∷ []) (3 ∷ 6 ∷ 1 ∷ 5 ∷ 2 ∷ 4 ∷ []) W C
+nightN W C = nightOf (6 ∷ []) (3 ∷ 6 ∷ 1 ∷ 5 ∷ 2 ∷ 4 ∷ []) false W C
 
 reversed : ℕ → ℕ → Night
-reversed n W = nightOf (n ∷ []) (reverse (cars n)) W 512
+reversed n W = nightOf (n ∷ []) (reverse (cars n)) false W 512
+
+-- the nights of document 01 are open; the same night, closed
+closed : Night → Night
+closed n = nightOf (n .lengths) (n .inbound) true (n .tracks) (n .room)
 
 plan : Night → ℕ → List ℕ → Plan
 plan n h codes = record { night = n; steps = h; codes = codes }
@@ -68,16 +72,16 @@ trials =
     trial 5 (take 1 (derives (nightN 2 3) 8)) (0 ∷ []) ∷
     trial 6 (built (plan (nightN 2 512) 2 (0 ∷ 0 ∷ 0 ∷ 1 ∷ 2 ∷ 3 ∷ [])) 1) (3 ∷ 1 ∷ 2 ∷ 4 ∷ 5 ∷ 6 ∷ []) ∷
     trial 6 (checks (plan (nightN 2 512) 2 (0 ∷ 0 ∷ 0 ∷ 1 ∷ 2 ∷ 3 ∷ []))) (9 ∷ 3 ∷ 0 ∷ []) ∷
-    trial 7 (derives (nightOf (1 ∷ []) (1 ∷ []) 2 512) 8) (0 ∷ 0 ∷ 1 ∷ []) ∷
-    trial 7 (codes (nightOf (1 ∷ []) (1 ∷ []) 2 512)) (0 ∷ []) ∷
-    trial 8 (take 2 (derives (nightOf (1 ∷ 1 ∷ []) (2 ∷ 1 ∷ []) 2 512) 8)) (0 ∷ 0 ∷ []) ∷
-    trial 8 (take 2 (derives (nightOf (2 ∷ []) (2 ∷ 1 ∷ []) 2 512) 8)) (0 ∷ 1 ∷ []) ∷
+    trial 7 (derives (nightOf (1 ∷ []) (1 ∷ []) false 2 512) 8) (0 ∷ 0 ∷ 1 ∷ []) ∷
+    trial 7 (codes (nightOf (1 ∷ []) (1 ∷ []) false 2 512)) (0 ∷ []) ∷
+    trial 8 (take 2 (derives (nightOf (1 ∷ 1 ∷ []) (2 ∷ 1 ∷ []) false 2 512) 8)) (0 ∷ 0 ∷ []) ∷
+    trial 8 (take 2 (derives (nightOf (2 ∷ []) (2 ∷ 1 ∷ []) false 2 512) 8)) (0 ∷ 1 ∷ []) ∷
     trial 9 (take 2 (derives (reversed 7 2) 8)) (0 ∷ 3 ∷ []) ∷
     trial 9 (codes (reversed 7 2)) (0 ∷ 1 ∷ 2 ∷ 3 ∷ 5 ∷ 6 ∷ 7 ∷ []) ∷
     trial 10 (take 2 (derives (reversed 8 2) 8)) (0 ∷ 4 ∷ []) ∷
     trial 10 (take 2 (derives (reversed 8 3) 8)) (0 ∷ 3 ∷ []) ∷
-    trial 11 (checks (plan (nightOf (1 ∷ []) (1 ∷ []) 2 512) 3 (4 ∷ []))) (8 ∷ 1 ∷ 0 ∷ []) ∷
-    trial 12 (derives (nightOf (2 ∷ []) (1 ∷ 1 ∷ []) 2 512) 8) (3 ∷ 2 ∷ 1 ∷ []) ∷
+    trial 11 (checks (plan (nightOf (1 ∷ []) (1 ∷ []) false 2 512) 3 (4 ∷ []))) (8 ∷ 1 ∷ 0 ∷ []) ∷
+    trial 12 (derives (nightOf (2 ∷ []) (1 ∷ 1 ∷ []) false 2 512) 8) (3 ∷ 2 ∷ 1 ∷ []) ∷
     trial 13 (derives (nightN 1 512) 2) (5 ∷ 3 ∷ 0 ∷ []) ∷
     []
 
@@ -93,15 +97,32 @@ tables =
     trial 0 (card (derivedPlan (nightN 2 3))) (18 ∷ 32 ∷ 12 ∷ 6 ∷ 2 ∷ 3 ∷ 0 ∷ 96 ∷ 48 ∷ 2 ∷ 2 ∷ 128 ∷ 64 ∷ 32 ∷ 45 ∷ 128 ∷ []) ∷
     []
 
--- nights of the requests of document 02, by their number: a car listed twice, thrice, and a number out of range, also twice
+-- one car alone, and two in one train
+one : Night
+one = nightOf (1 ∷ []) (1 ∷ []) false 2 512
+
+two : Night
+two = nightOf (2 ∷ []) (1 ∷ 2 ∷ []) false 2 512
+
+-- nights of the requests of document 02, by their number. 101: a car listed twice, thrice, and a number out of range, also twice.
+-- 103: night N closed, one car closed; a zero code, 7 before it and it before 8, and the same codes in an open night
 unfoldable pub requests : List Trial
-unfolding plan told derives checks trial
+unfolding nightN closed plan told derives codes checks trial one two
 requests =
-    trial 101 (derives (nightOf (5 ∷ []) (2 ∷ 1 ∷ 3 ∷ 1 ∷ 3 ∷ []) 2 512) 8) (3 ∷ 4 ∷ 2 ∷ []) ∷
-    trial 101 (derives (nightOf (3 ∷ []) (2 ∷ 2 ∷ 2 ∷ []) 2 512) 8) (3 ∷ 2 ∷ 1 ∷ []) ∷
-    trial 101 (derives (nightOf (3 ∷ []) (1 ∷ 4 ∷ 4 ∷ []) 2 512) 8) (3 ∷ 2 ∷ 0 ∷ []) ∷
-    trial 101 (checks (plan (nightOf (3 ∷ []) (1 ∷ 2 ∷ 2 ∷ []) 2 512) 0 (0 ∷ 0 ∷ 0 ∷ []))) (3 ∷ 3 ∷ 2 ∷ []) ∷
-    trial 101 (checks (plan (nightOf (2 ∷ []) (0 ∷ 0 ∷ []) 2 512) 0 (0 ∷ 0 ∷ []))) (3 ∷ 1 ∷ 0 ∷ []) ∷
+    trial 101 (derives (nightOf (5 ∷ []) (2 ∷ 1 ∷ 3 ∷ 1 ∷ 3 ∷ []) false 2 512) 8) (3 ∷ 4 ∷ 2 ∷ []) ∷
+    trial 101 (derives (nightOf (3 ∷ []) (2 ∷ 2 ∷ 2 ∷ []) false 2 512) 8) (3 ∷ 2 ∷ 1 ∷ []) ∷
+    trial 101 (derives (nightOf (3 ∷ []) (1 ∷ 4 ∷ 4 ∷ []) false 2 512) 8) (3 ∷ 2 ∷ 0 ∷ []) ∷
+    trial 101 (checks (plan (nightOf (3 ∷ []) (1 ∷ 2 ∷ 2 ∷ []) false 2 512) 0 (0 ∷ 0 ∷ 0 ∷ []))) (3 ∷ 3 ∷ 2 ∷ []) ∷
+    trial 101 (checks (plan (nightOf (2 ∷ []) (0 ∷ 0 ∷ []) false 2 512) 0 (0 ∷ 0 ∷ []))) (3 ∷ 1 ∷ 0 ∷ []) ∷
+    trial 103 (derives (closed (nightN 2 512)) 8) (0 ∷ 3 ∷ 14 ∷ []) ∷
+    trial 103 (codes (closed (nightN 2 512))) (1 ∷ 1 ∷ 2 ∷ 2 ∷ 3 ∷ 5 ∷ []) ∷
+    trial 103 (derives (closed one) 8) (0 ∷ 1 ∷ 2 ∷ []) ∷
+    trial 103 (codes (closed one)) (1 ∷ []) ∷
+    trial 103 (derives (closed one) 0) (5 ∷ 1 ∷ 0 ∷ []) ∷
+    trial 103 (checks (plan (closed (nightN 2 512)) 2 (1 ∷ 1 ∷ 0 ∷ 1 ∷ 0 ∷ 3 ∷ []))) (14 ∷ 3 ∷ 0 ∷ []) ∷
+    trial 103 (checks (plan (closed two) 1 (0 ∷ 2 ∷ []))) (7 ∷ 2 ∷ 0 ∷ []) ∷
+    trial 103 (checks (plan (closed two) 3 (4 ∷ 0 ∷ []))) (14 ∷ 2 ∷ 0 ∷ []) ∷
+    trial 103 (checks (plan two 3 (4 ∷ 0 ∷ []))) (8 ∷ 1 ∷ 0 ∷ []) ∷
     []
 
 -- all of them agree

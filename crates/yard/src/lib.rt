@@ -30,12 +30,14 @@ pub struct Answer {
     pub b: usize,
 }
 
-// What the card reader tells besides: the card's steps, tracks, room, cars and trains, all 0 where it refuses.
+// What the card reader tells besides: the card's mark, which is 0 for open, its steps, tracks, room, cars and trains, all 0 where it
+// refuses.
 #[repr(C)]
 pub struct CardAnswer {
     pub number: usize,
     pub a: usize,
     pub b: usize,
+    pub mark: usize,
     pub steps: usize,
     pub tracks: usize,
     pub room: usize,

@@ -9,14 +9,14 @@ use Rattle.derive.proofs.derive.Tie as tie
 returns : tie.Need-returns
 returns c =
     let args = c .before .before .before .before .before .before .args in
-    derive-refused (nightOf (now (args .lengths)) (now (args .inbound)) (args .counts .tracks) (args .counts .room)) (args .counts .steps) (now (args .codes))
+    derive-refused (nightOf (now (args .lengths)) (now (args .inbound)) (args .closed) (args .counts .tracks) (args .counts .room)) (args .counts .steps) (now (args .codes))
     (c .before .before .given .ensures) (c .if1 .taken)
 
 plan-requires : tie.Need-plan-requires
 plan-requires c κs =
     let at-test = c .before in
     let args = at-test .before .before .before .before .before .before .args in
-    given-passed (nightOf (now (args .lengths)) (now (args .inbound)) (args .counts .tracks) (args .counts .room)) (args .counts .steps) (now (args .codes))
+    given-passed (nightOf (now (args .lengths)) (now (args .inbound)) (args .closed) (args .counts .tracks) (args .counts .room)) (args .counts .steps) (now (args .codes))
     (at-test .before .before .given .ensures) (at-test .if1 .left)
 
 returns-2 : tie.Need-returns-2
@@ -24,7 +24,7 @@ returns-2 c =
     let called = c .before .before in
     let at-test = called .before .before in
     let args = at-test .before .before .before .before .before .before .args in
-    derive-planned (nightOf (now (args .lengths)) (now (args .inbound)) (args .counts .tracks) (args .counts .room)) (args .counts .steps) (now (args .codes))
+    derive-planned (nightOf (now (args .lengths)) (now (args .inbound)) (args .closed) (args .counts .tracks) (args .counts .room)) (args .counts .steps) (now (args .codes))
     (at-test .before .before .given .ensures) (at-test .if1 .left) (called .plan .ensures)
 
 pub derive-spec : {M : Type 1} → statement M

@@ -1,5 +1,6 @@
 -- The proof of `given`: each answer is that of the tests before those that come later.
 use mathlib.Core.Path.{ap₂, sym, ap, _∙_}
+use mathlib.Core.Bool.{false}
 use mathlib.Core.List.{[], _∷_}
 use lib.ListN.{length}
 use denote.Ref.{now}
@@ -16,7 +17,7 @@ use Rattle.derive.proofs.given.Tie as tie
 returns : tie.Need-returns
 returns c =
     let args = c .before .before .before .before .before .args in
-    given-counts (nightOf (now (args .lengths)) (now (args .inbound)) (args .tracks) (args .room)) (args .limit) (args .size)
+    given-counts (nightOf (now (args .lengths)) (now (args .inbound)) false (args .tracks) (args .room)) (args .limit) (args .size)
     (c .before .before .counts .ensures) (c .if1 .taken)
 
 lists-requires : tie.Need-lists-requires
@@ -30,7 +31,7 @@ returns-2 : tie.Need-returns-2
 returns-2 c =
     let called = c .before .before .before in
     let args = called .before .before .before .before .before .args in
-    given-lists (nightOf (now (args .lengths)) (now (args .inbound)) (args .tracks) (args .room)) (args .limit) (args .size)
+    given-lists (nightOf (now (args .lengths)) (now (args .inbound)) false (args .tracks) (args .room)) (args .limit) (args .size)
     (called .before .before .counts .ensures) (called .if1 .left)
     (c .unless .ensures ∙ ap₂ (λ (a b : Answer). verdict (a ∷ []) b) (c .before .before .lists .ensures) (c .before .list .ensures))
 

@@ -14,7 +14,7 @@ use Rattle.plans.proofs.check.Tie as tie
 abbrev plan : tie.After-counts → Plan
 plan c =
     let a = c .before .before .before .before .args in
-    planOf (now (a .lengths)) (now (a .inbound)) (a .counts .tracks) (a .counts .room) (a .counts .steps) (now (a .codes))
+    planOf (now (a .lengths)) (now (a .inbound)) (a .closed) (a .counts .tracks) (a .counts .room) (a .counts .steps) (now (a .codes))
 
 -- where the counts have passed, and where the lists have
 abbrev counted-at : tie.Else2 → tie.Else1

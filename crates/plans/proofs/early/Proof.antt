@@ -1,6 +1,6 @@
 -- The proof of `early`: what the search found, or nothing.
 use mathlib.Core.Path.{sym, ap, _∙_}
-use Rattle.sorting.specs.Closed.{earlyAnswer}
+use Rattle.sorting.specs.Worked.{earlyAnswer}
 use borrow.Author.Needs.{needs}
 use Rattle.plans.proofs.early.Statement.{statement}
 use Rattle.plans.proofs.early.Tie as tie

@@ -4,7 +4,7 @@ use Prim.Native.Nat.{ℕ, _-_}
 use lib.ListN.{length}
 use Rattle.yard.specs.Words.{place, first}
 use Rattle.pairs.specs.Pairs.{unruledAt}
-use Rattle.plans.proofs.Closed.{part-front}
+use Rattle.plans.proofs.Worked.{part-front}
 use mathlib.Core.Path.{ap, _∙_}
 use denote.Ref.{now}
 use borrow.Author.Needs.{needs}

@@ -2,7 +2,7 @@
 use mathlib.Core.Path.{sym, _∙_}
 use denote.Ref.{now}
 use native.Mathlib.Omega.{arith}
-use Rattle.plans.proofs.Closed.{told-early}
+use Rattle.plans.proofs.Worked.{told-early}
 use Rattle.plans.proofs.Usable.{of-eight, never-waits}
 use borrow.Author.Needs.{needs}
 use Rattle.plans.proofs.kept.Statement.{statement}

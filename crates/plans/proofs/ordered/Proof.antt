@@ -10,7 +10,7 @@ use lib.ListN.{length}
 use borrow.Author.Tests.{lt-leb, le-leb}
 use Rattle.yard.specs.Answers.{says, test, verdict}
 use Rattle.sorting.specs.Sums.{setBelow, fullestOf}
-use Rattle.plans.specs.Closed.{firstPair}
+use Rattle.plans.specs.Worked.{firstPair}
 use borrow.Author.Needs.{needs}
 use Rattle.plans.proofs.ordered.Statement.{statement}
 use Rattle.plans.proofs.ordered.Tie as tie

@@ -7,7 +7,7 @@ use lib.Dec.{leb}
 use lib.ListN.{length}
 use Rattle.yard.specs.Answers.{says, listTest}
 use Rattle.yard.proofs.calls.Verdict.{stops, goes-on, stops-all, goes-on-all, last-is}
-use Rattle.plans.specs.Closed.{givenTests}
+use Rattle.plans.specs.Worked.{givenTests}
 use borrow.Author.Needs.{needs}
 use Rattle.plans.proofs.placed.Statement.{statement}
 use Rattle.plans.proofs.placed.Tie as tie

@@ -18,7 +18,7 @@ start c = c .before .before .before .before .before .before
 abbrev plan : tie.After-counts → Plan
 plan c =
     let a = start c .args in
-    planOf (now (a .lengths)) (now (a .inbound)) (a .counts .tracks) (a .counts .room) (a .counts .steps) (now (a .codes))
+    planOf (now (a .lengths)) (now (a .inbound)) (a .closed) (a .counts .tracks) (a .counts .room) (a .counts .steps) (now (a .codes))
 
 -- the places from which a place comes
 abbrev counts-at : tie.Else1 → tie.After-counts

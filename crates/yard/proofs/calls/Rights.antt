@@ -1,7 +1,7 @@
 -- Each ask is right: it is passed exactly if what it asks holds, and A and B are what it says they are.
 use Prim.Native.Nat.{ℕ, zero, suc, _+_, _-_, _≤_, _<_, _^_}
 use mathlib.Core.Path.{_≡_, refl, sym, ap, _∙_, subst}
-use mathlib.Core.Logic.{_⊎_, inl, inr, ⊎-elim, _↔_}
+use mathlib.Core.Logic.{_⊎_, inl, inr, ⊎-elim, _↔_, Iff·trans}
 use mathlib.Core.Bool.{Bool, true, false, cond, not, _&&_, _||_}
 use mathlib.Core.List.{List, [], _∷_}
 use native.Mathlib.Nat.{le-refl}
@@ -15,18 +15,19 @@ use Rattle.yard.specs.Words.{count, listed, place, first}
 use Rattle.yard.specs.Night.{Night, Plan, sum, itemOf, pair, broken}
 use Rattle.yard.specs.Replay.{bit, codeOf, pulled, pullSize, early, lowestEarly, firstEarly, firstOverfull, inOrder}
 use Rattle.yard.specs.Derived.{stepsNeeded, derivedCodes, derivedPlan}
-use Rattle.yard.specs.Demands.{Least, Within, NoneEmpty, EachOnce, CodesBelow, NeverEarly, HasRoom, BuildsTrains, Listed, CodesFormed, Sortable}
-use Rattle.yard.specs.Demands.{EmptyTrain, WideCode, CarAt, MetAt, BadPlace, ListedAt, TakesEarly, EarlyStep, OverfullStep, Ruled, BreaksRule}
+use Rattle.yard.specs.Demands.{Least, Within, NoneEmpty, EachOnce, CodesBelow, KeepsClear, NeverEarly, HasRoom, BuildsTrains, Listed}
+use Rattle.yard.specs.Demands.{CodesFormed, Sortable, EmptyTrain, WideCode, ZeroCode, CarAt, MetAt, BadPlace, ListedAt, TakesEarly, EarlyStep, OverfullStep, Ruled, BreaksRule}
 use Rattle.yard.specs.Answers.{plain, countAsk, emptyTrain, trainAsk, sumAsk, lengthAsk, bufferAsk, limitAsk}
 use Rattle.yard.specs.Answers.{firstWith, inRange, badPlace, firstBad, firstListing, inboundAsk}
-use Rattle.yard.specs.Answers.{roomAsk, wideCode, codeAsk, codeTest, earlyAsk, ruled, unruled, firstUnruled, orderAsk}
+use Rattle.yard.specs.Answers.{roomAsk, wideCode, codeAsk, codeTest, noZero, zeroAsk, earlyAsk, ruled, unruled, firstUnruled, orderAsk}
 use Rattle.yard.proofs.general.Bools.{split, clash, and-left, and-right, and-both, not-true, not-so}
-use Rattle.yard.proofs.general.First.{first-least, first-hit}
+use Rattle.yard.proofs.general.First.{first-least, first-hit, first-none, first-fails}
 use Rattle.yard.proofs.general.Order.{place-among}
 use Rattle.yard.proofs.calls.Tests.{passed-exactly, count-passed, sum-passed, none-passed}
 use Rattle.yard.proofs.yards.Formed.{train-passed, inbound-passed, place-holds, count-at}
 use Rattle.yard.proofs.yards.Plans.{InRange, range-once, pulled-came, early-passed, room-passed}
 use Rattle.yard.proofs.yards.Building.{order-builds, order-ruled}
+use Rattle.yard.proofs.yards.Clear.{clear-exactly}
 use Rattle.yard.proofs.yards.Least.{least-steps}
 use Rattle.yard.proofs.yards.DerivedPlan.{derived-sorts}
 use Rattle.yard.proofs.calls.Asks.{Right, least-exactly, first-is-least, plain-right, least-with-right, least-right}
@@ -229,6 +230,57 @@ code-right h codes =
 
     wide : ℕ → Bool
     wide car = leb (2 ^ h) (itemOf codes car)
+
+-- ---- zero codes in a closed night
+
+module _ (p : Plan) where
+  -- a car with code 0 is never pulled
+  unmoved : ℕ → Bool
+  unmoved car = eqb (codeOf p car) 0
+
+  -- the test of a closed night is passed exactly if no car has code 0; where it is not, the search finds the first that has
+  none-zero : (noZero (p .night .closed) (p .codes) ≡ true) ↔ ((car : ℕ) → ZeroCode p car → ⊥)
+  unfolding unmoved
+  none-zero = go (p .night .closed) refl
+    where
+      n : ℕ
+      n = length (p .codes)
+
+      none : (ltb n (first unmoved n 1) ≡ true) ↔ ((car : ℕ) → Within 1 n car → unmoved car ≡ false)
+      none = (
+        λ e car w. first-none unmoved n 1 car (w .0) (omega (arith, ltb-true n (first unmoved n 1) e, w .1)),
+        λ f. lt-ltb n (first unmoved n 1) (omega (arith, first-fails unmoved n 1 (λ car l m. f car (l, omega (arith, m))))),
+      )
+
+      go : (b : Bool) → p .night .closed ≡ b → (noZero b (p .codes) ≡ true) ↔ ((car : ℕ) → ZeroCode p car → ⊥)
+      go false free = (λ _ car z. clash (z .0) free, λ _. refl)
+      go true shut = (
+        λ e car z. clash (eq-eqb (codeOf p car) 0 (z .2)) (none .0 e car (z .1)),
+        λ f. none .1 (λ car w. not-so (unmoved car) (λ e. f car (shut, w, eqb-true (codeOf p car) 0 e))),
+      )
+
+  first-zero : noZero (p .night .closed) (p .codes) ≡ false → Least (ZeroCode p) (firstWith 0 (p .codes))
+  unfolding unmoved
+  first-zero = go (p .night .closed) refl
+    where
+      n : ℕ
+      n = length (p .codes)
+
+      go : (b : Bool) → p .night .closed ≡ b → noZero b (p .codes) ≡ false → Least (ZeroCode p) (first unmoved n 1)
+      go false free e = clash refl e
+      go true shut e =
+          first-is-least unmoved n 1 (ZeroCode p)
+          (λ car low high z. (shut, (low, omega (arith, high)), eqb-true (codeOf p car) 0 z))
+          (λ car z. (z .1 .0, omega (arith, z .1 .1), eq-eqb (codeOf p car) 0 (z .2)))
+          (found-within unmoved n e)
+
+  pub zero-right : Listed (p .night .lengths) (p .night .inbound) → 0 < p .night .tracks → CodesFormed p → Right (zeroAsk p)
+  zero-right f pos formed =
+      least-right 13 (noZero (p .night .closed) (p .codes)) (firstWith 0 (p .codes)) (KeepsClear p) (ZeroCode p)
+      (Iff·trans none-zero (clear .1, clear .0)) first-zero
+    where
+      clear : KeepsClear p ↔ ((car : ℕ) → ZeroCode p car → ⊥)
+      clear = clear-exactly p f pos formed
 
 -- ---- the replay: early pulls, and room
 

@@ -1,7 +1,7 @@
 -- Laws of the night card: its length, and that plan and card give back one another. They hold for the widths of any layout.
 use Prim.Native.Nat.{ℕ, zero, suc, _+_, _-_, _*_, _^_, _≤_, _<_}
 use mathlib.Core.Path.{_≡_, refl, sym, ap, _∙_}
-use mathlib.Core.Bool.{true}
+use mathlib.Core.Bool.{Bool, true, false}
 use mathlib.Core.List.{List, [], _∷_, _++_}
 use native.Mathlib.Nat.{mul-le-mul}
 use native.Mathlib.Omega.{arith}
@@ -11,7 +11,7 @@ use lib.Seq.{take-append-seam, drop-append-seam, drop-at, length-take-le}
 use borrow.Author.Tests.{eqb-true, eq-eqb}
 use Rattle.yard.specs.declared.Head.{Head}
 use Rattle.yard.specs.Words.{every}
-use Rattle.yard.specs.Night.{Plan, sum}
+use Rattle.yard.specs.Night.{Plan, planOf, sum}
 use Rattle.yard.specs.Bits.{Bytes, fromBits, packed, unpacked, wholeBytes, toBytes, bitsOf}
 use Rattle.yard.specs.Card.{layout, headWidths, headFields, headFrom, listWidths, widths, headLength, cardLength, headOf, fields, card, headOn}
 use Rattle.yard.specs.Card.{listsOn, cardPlan, rightLength, endsRight}
@@ -116,10 +116,11 @@ card-lists p f =
     let apart = unpacked-append (headWidths (layout 1)) (listWidths h) (bitsOf (card p)) in
     ap (λ h. unpacked (listWidths h) (drop (headBits h) (bitsOf (card p)))) (card-head p f) ∙ ap (drop 6) (sym apart ∙ card-fields p f)
 
-pub cardPlan-card : (p : Plan) → Fitting p → cardPlan (card p) ≡ p
+pub cardPlan-card : (p : Plan) → Fitting p → p .night .closed ≡ false → cardPlan (card p) ≡ p
 unfolding cardPlan
-cardPlan-card p f =
+cardPlan-card p f free =
     rw (card-head p f, card-lists p f, take-append-seam, drop-append-seam, take-append-seam, drop-append-seam)
+    (ap (λ (b : Bool). planOf (p .night .lengths) (p .night .inbound) b (p .night .tracks) (p .night .room) (p .steps) (p .codes)) (sym free))
 
 pub card-right-length : (p : Plan) → Fitting p → rightLength (card p) ≡ length (card p)
 unfolding rightLength

@@ -48,15 +48,16 @@ written-longest p size e =
     let counts = w .given .counts in
     card-longest p (w .each) (counts .steps .1) (counts .cars .1) (counts .trains .1)
 
--- What the writer writes the reader accepts, and reads back.
+-- What the writer writes of an open night the reader accepts, and reads back.
 pub written-read-back : (p : Plan) (size a b c : ℕ)
+    → p .night .closed ≡ false
     → writerAnswer limits p size .number ≡ 0
     → length (p .night .lengths) ≤ a
     → length (p .night .inbound) ≤ b
     → length (p .codes) ≤ c
     → (readerVerdict limits (card p) a b c .number ≡ 0) × (cardPlan (card p) ≡ p)
 unfolding rightLength
-written-read-back p size a b c e la lb lc =
+written-read-back p size a b c free e la lb lc =
     let w = writer-accepts-exactly limits p size .0 e in
     let f = writable-fitting p size w in
     let head = card-head p f in
@@ -70,10 +71,10 @@ written-read-back p size a b c e la lb lc =
       lengths = rw head la;
       inbound = rw head lb;
       codes = rw head (rw (w .each) at lc);
-      lists = rw (cardPlan-card p f) (w .given .lists);
+      lists = rw (cardPlan-card p f free) (w .given .lists);
       ends = card-ends-right p f;
     } in
-    (reader-accepts-exactly limits (card p) a b c .1 readable, cardPlan-card p f)
+    (reader-accepts-exactly limits (card p) a b c .1 readable, cardPlan-card p f free)
 
 -- What the reader accepts is the card of its plan, and the writer accepts that plan.
 pub accepted-isCard : (L : Limits) (bytes : List ℕ) (a b c : ℕ) → Bytes bytes → readerVerdict L bytes a b c .number ≡ 0 → IsCard bytes
@@ -163,7 +164,7 @@ module _
           codes = reads .codes ∙ written-accepted v (cardPlan bytes .codes) codes₀ accepted;
         }
 
--- Written, then read: the plan that went in comes out.
+-- Written, then read: the plan that went in comes out. A card of edition 1 means an open night.
 written-bytes : {p : Plan} {before : List ℕ} {w : Answer} {after : List ℕ} → Writes p before w after → w .number ≡ 0 → take (w .a) after ≡ card p
 unfolding writerAnswer
 written-bytes {p} {before} {w} {after} writes e =
@@ -175,6 +176,7 @@ written-bytes {p} {before} {w} {after} writes e =
     rw (bytes, size) (take-append-seam (card p) (drop (length (card p)) before))
 
 pub written-then-read : {p : Plan} {before : List ℕ} {w : Answer} {after lengths₀ inbound₀ codes₀ : List ℕ} {r : CardAnswer} {lengths₁ inbound₁ codes₁ : List ℕ}
+    → p .night .closed ≡ false
     → Writes p before w after
     → w .number ≡ 0
     → Reads (take (w .a) after) lengths₀ inbound₀ codes₀ r lengths₁ inbound₁ codes₁
@@ -182,9 +184,9 @@ pub written-then-read : {p : Plan} {before : List ℕ} {w : Answer} {after lengt
     → length (p .night .inbound) ≤ length inbound₀
     → length (p .codes) ≤ length codes₀
     → Told p lengths₀ inbound₀ codes₀ r lengths₁ inbound₁ codes₁
-written-then-read {p} {before} {w} {after} {lengths₀} {inbound₀} {codes₀} {r} {lengths₁} {inbound₁} {codes₁} writes e reads l i c =
+written-then-read {p} {before} {w} {after} {lengths₀} {inbound₀} {codes₀} {r} {lengths₁} {inbound₁} {codes₁} free writes e reads l i c =
     let same : Reads (card p) lengths₀ inbound₀ codes₀ r lengths₁ inbound₁ codes₁ = rw (written-bytes writes e) at reads in
-    let back = written-read-back p (length before) (length lengths₀) (length inbound₀) (length codes₀) (sym (ap (λ r. r .number) (writes .answer)) ∙ e) l i c in
+    let back = written-read-back p (length before) (length lengths₀) (length inbound₀) (length codes₀) free (sym (ap (λ r. r .number) (writes .answer)) ∙ e) l i c in
     rw (back .1) at (read-told same (reads-number same ∙ back .0))
 
 -- Read, then written: the bytes that came in go out.

@@ -89,7 +89,7 @@ listsFrom h bits = unpacked (listWidths h) (drop (sum (headWidths (layout (h .ed
 planFrom : Head → List ℕ → Plan
 planFrom h lists =
     let byCar = drop (h .trains) lists in
-    planOf (take (h .trains) lists) (take (h .cars) byCar) (h .tracks) (h .room) (h .steps) (drop (h .cars) byCar)
+    planOf (take (h .trains) lists) (take (h .cars) byCar) false (h .tracks) (h .room) (h .steps) (drop (h .cars) byCar)
 
 -- ---- the reader's verdict, with what hangs on the bytes behind the head set apart
 

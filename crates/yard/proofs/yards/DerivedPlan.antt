@@ -12,10 +12,10 @@ use borrow.Author.Tests.{leb-true, le-leb, ltb-true, lt-ltb, eqb-true}
 use Rattle.yard.specs.Words.{tally, count, keep, first, upFrom}
 use Rattle.yard.specs.Night.{Night, Plan, cars, itemOf, trainOf, firstCar, pair, broken, breaks, breaksIn, breaksBefore, mostBreaks}
 use Rattle.yard.specs.Replay.{codeOf}
-use Rattle.yard.specs.Codes.{usable, usableCodes, codeNumber, F, fewestSteps}
+use Rattle.yard.specs.Codes.{allowed, allowedCodes, codeNumber, F, fewestSteps}
 use Rattle.yard.specs.Derived.{stepsNeeded, derivedCodes, derivedPlan}
 use Rattle.yard.specs.Answers.{ruled, unruled}
-use Rattle.yard.specs.Demands.{Within, Listed, CodesFormed, NeverEarly, BuildsTrains, Sorts}
+use Rattle.yard.specs.Demands.{Within, Listed, CodesFormed, KeepsClear, NeverEarly, BuildsTrains, Sorts}
 use Rattle.yard.proofs.general.Bools.{split, clash, and-left, and-right, not-so, not-true}
 use Rattle.yard.proofs.general.First.{first-le, first-hit}
 use Rattle.yard.proofs.yards.Early.{Gaps}
@@ -25,7 +25,8 @@ use Rattle.yard.proofs.yards.Trains.{firstCar-suc, itemOf-suc, most-abo
 use Rattle.yard.proofs.yards.Formed.{count-at}
 use Rattle.yard.proofs.yards.Plans.{never-gaps, usable-gaps}
 use Rattle.yard.proofs.yards.Building.{train-cars, came-within, builds-ruled}
-use Rattle.yard.proofs.yards.Least.{F-usable}
+use Rattle.yard.proofs.yards.Allowed.{allowed-usable, allowed-some, F-allowed}
+use Rattle.yard.proofs.yards.Clear.{clear-exactly}
 
 -- ---- lists by number
 
@@ -76,11 +77,11 @@ abbrev pub coded : Night → ℕ → (ℕ → ℕ) → Plan
 coded n h g = record { night = n; steps = h; codes = map g (cars (length (n .inbound))) }
 
 module _ (n : Night) (f : Listed (n .lengths) (n .inbound)) (pos : 0 < n .tracks) (h : ℕ) (g : ℕ → ℕ) where
-  -- where the codes are below 2^h, keep their gaps and follow the rule on pairs, it sorts
-  pub coded-sorts : ((car : ℕ) → Within 1 (length (n .inbound)) car → (g car < 2 ^ h) × Gaps (n .tracks) h (g car))
+  -- where the codes are below 2^h, in a closed night above 0, keep their gaps and follow the rule on pairs, it sorts
+  pub coded-sorts : ((car : ℕ) → Within 1 (length (n .inbound)) car → (g car < 2 ^ h) × Gaps (n .tracks) h (g car) × (n .closed ≡ true → 0 < g car))
       → ((j : ℕ) → 1 ≤ j → j < length (n .inbound) → pair (n .lengths) j ≡ true → ruled (g j) (g (suc j)) (broken (n .inbound) j) ≡ true)
       → Sorts (coded n h g)
-  coded-sorts fits rules = record { codes = formed; never = never; builds = builds-ruled (coded n h g) f formed never .1 follows }
+  coded-sorts fits rules = record { codes = formed; clear = clear; never = never; builds = builds-ruled (coded n h g) f formed never .1 follows }
     where
       code : (car : ℕ) → Within 1 (length (n .inbound)) car → g car ≡ codeOf (coded n h g) car
       code car w = sym (by-car g (length (n .inbound)) car w)
@@ -97,6 +98,13 @@ module _ (n : Night) (f : Listed (n .lengths) (n .inbound)) (pos : 0 < n .tracks
                 let v : Within 1 (length (n .inbound)) car = (w .0, omega (arith, w .1, sized)) in
                 subst (λ (c : ℕ). c < 2 ^ h) (code car v) (fits car v .0);
           }
+
+      clear : KeepsClear (coded n h g)
+      clear =
+          clear-exactly (coded n h g) f pos formed .1
+          (λ car (shut, w, e).
+          let v : Within 1 (length (n .inbound)) car = (w .0, omega (arith, w .1, sized)) in
+          omega (arith, fits car v .2 shut, code car v, e))
 
       never : NeverEarly (coded n h g)
       never =
@@ -117,16 +125,17 @@ module _ (n : Night) (f : Listed (n .lengths) (n .inbound)) (pos : 0 < n .tracks
 
 -- ---- code numbers
 
-module _ (W h : ℕ) (pos : 0 < W) where
-  pub codeNumber-usable : (q : ℕ) → q < F W h → (usable W h (codeNumber W h q) ≡ true) × (codeNumber W h q < 2 ^ h)
-  unfolding codeNumber usableCodes
-  codeNumber-usable q m =
-      let k = kept-item (usable W h) 0 (2 ^ h) q (omega (arith, F-usable W h pos)) in
+module _ (closed : Bool) (W h : ℕ) (pos : 0 < W) where
+  pub codeNumber-allowed : (q : ℕ) → q + tally closed < F W h
+      → (allowed closed W h (codeNumber closed W h q) ≡ true) × (codeNumber closed W h q < 2 ^ h)
+  unfolding codeNumber allowedCodes
+  codeNumber-allowed q m =
+      let k = kept-item (allowed closed W h) 0 (2 ^ h) q (omega (arith, F-allowed closed W h pos)) in
       (k .0, omega (arith, k .2))
 
-  pub codeNumber-rising : (q r : ℕ) → q < r → r < F W h → codeNumber W h q < codeNumber W h r
-  unfolding codeNumber usableCodes
-  codeNumber-rising q r l m = kept-rising (usable W h) 0 (2 ^ h) q r l (omega (arith, F-usable W h pos))
+  pub codeNumber-rising : (q r : ℕ) → q < r → r + tally closed < F W h → codeNumber closed W h q < codeNumber closed W h r
+  unfolding codeNumber allowedCodes
+  codeNumber-rising q r l m = kept-rising (allowed closed W h) 0 (2 ^ h) q r l (omega (arith, F-allowed closed W h pos))
 
 -- the fewest steps give a code for each number of breaks
 pub fewest-enough : (W c : ℕ) → 0 < W → c < F W (fewestSteps W c)
@@ -188,20 +197,25 @@ module _ (n : Night) (f : Listed (n .lengths) (n .inbound)) where
 
     pub derived-length : length (derivedCodes n) ≡ length (n .inbound)
     unfolding derivedCodes
-    derived-length = length-by-car (λ c. codeNumber (n .tracks) (stepsNeeded n) (number c)) (length (n .inbound))
+    derived-length = length-by-car (λ c. codeNumber (n .closed) (n .tracks) (stepsNeeded n) (number c)) (length (n .inbound))
 
-    -- there is a code for each number of breaks
-    number-fits : (car : ℕ) → Within 1 (length (n .inbound)) car → number car < F (n .tracks) (stepsNeeded n)
+    -- there is an allowed code for each number of breaks
+    pub breaks-fit : (car : ℕ) → Within 1 (length (n .inbound)) car
+        → breaksBefore (n .lengths) (n .inbound) car + tally (n .closed) < F (n .tracks) (stepsNeeded n)
     unfolding stepsNeeded
-    number-fits car w = omega (arith, before-most car w, fewest-enough (n .tracks) (mostBreaks (n .lengths) (n .inbound)) pos)
+    breaks-fit car w = omega (arith, before-most car w, fewest-enough (n .tracks) (mostBreaks (n .lengths) (n .inbound) + tally (n .closed)) pos)
 
     pub derived-sorts : Sorts (derivedPlan n)
     unfolding derivedPlan derivedCodes
     derived-sorts =
         coded-sorts n f pos H (λ car. code (number car))
         (λ car w.
-        let here = codeNumber-usable W H pos (number car) (number-fits car w) in
-        (here .1, usable-gaps W H (code (number car)) pos .0 (here .0)))
+        let (here, below) = codeNumber-allowed (n .closed) W H pos (number car) (breaks-fit car w) in
+        (
+          below,
+          usable-gaps W H (code (number car)) pos .0 (allowed-usable (n .closed) W H (code (number car)) here),
+          allowed-some (n .closed) W H (code (number car)) here,
+        ))
         (λ j l m e. rising j m (broken (n .inbound) j) (before-pair j l m e))
       where
         W : ℕ
@@ -211,14 +225,14 @@ module _ (n : Night) (f : Listed (n .lengths) (n .inbound)) where
         H = stepsNeeded n
 
         code : ℕ → ℕ
-        code q = codeNumber W H q
+        code q = codeNumber (n .closed) W H q
 
         -- the next car of a train has the same code, or after a break a greater one
         rising : (j : ℕ) → j < length (n .inbound) → (b : Bool) → number (suc j) ≡ number j + tally b
             → ruled (code (number j)) (code (number (suc j))) b ≡ true
         rising j m true e =
             lt-ltb (code (number j)) (code (number (suc j)))
-            (codeNumber-rising W H pos (number j) (number (suc j)) (omega arith) (number-fits (suc j) (omega arith, m)))
+            (codeNumber-rising (n .closed) W H pos (number j) (number (suc j)) (omega arith) (breaks-fit (suc j) (omega arith, m)))
         rising j m false e =
             let same : number j ≡ number (suc j) = omega arith in
             le-leb (code (number j)) (code (number (suc j))) (omega (arith, ap code same))

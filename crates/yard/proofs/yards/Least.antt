@@ -12,7 +12,7 @@ use borrow.Author.Tests.{leb-true, le-leb, ltb-true, lt-ltb, eqb-true}
 use Rattle.yard.specs.Words.{tally, total, count, keep, first, upFrom}
 use Rattle.yard.specs.Night.{Night, Plan, cars, sum, itemOf, trainOf, firstCar, carsOf, pair, broken, breaks, breaksIn, breaksBefore, mostBreaks}
 use Rattle.yard.specs.Replay.{bit, codeOf}
-use Rattle.yard.specs.Codes.{usable, usableCodes, codeNumber, F, fewestSteps}
+use Rattle.yard.specs.Codes.{allowed, F, fewestSteps}
 use Rattle.yard.specs.Derived.{stepsNeeded, derivedCodes, derivedPlan}
 use Rattle.yard.specs.Answers.{ruled, unruled}
 use Rattle.yard.specs.Demands.{Within, Listed, CodesFormed, NeverEarly, BuildsTrains, Sorts}
@@ -21,11 +21,13 @@ use Rattle.yard.proofs.general.Numbers.{le-or-lt}
 use Rattle.yard.proofs.general.First.{first-from, first-le, first-hit, first-least}
 use Rattle.yard.proofs.general.Lists.{total-small, tally-small, count-kept, count-upFrom-in, upFrom-bounds, length-upFrom}
 use Rattle.yard.proofs.yards.Codes.{total-next}
-use Rattle.yard.proofs.yards.Counting.{passing, total-split, length-passing, F-counts, F-above}
+use Rattle.yard.proofs.yards.Counting.{passing, total-split}
 use Rattle.yard.proofs.yards.Trains.{firstCar-suc, most-above, most-reached, breaks-suc, breaksBefore-train}
 use Rattle.yard.proofs.yards.Formed.{count-at}
 use Rattle.yard.proofs.yards.Plans.{never-gaps, usable-gaps}
-use Rattle.yard.proofs.yards.Building.{train-cars, cars-train, came-once, builds-ruled, ruled-of-builds}
+use Rattle.yard.proofs.yards.Allowed.{usable-allowed, allowed-count}
+use Rattle.yard.proofs.yards.Building.{cars-train, came-once, ruled-of-builds}
+use Rattle.yard.proofs.yards.Clear.{clear-some}
 
 -- ---- counting what passes
 
@@ -46,27 +48,21 @@ passing-more p n d =
 pub passing-most : (p : ℕ → Bool) (n : ℕ) → passing p n ≤ n
 passing-most p n = omega (arith, passing-more p 0 n, ap (λ (k : ℕ). passing p k) (zero-add n))
 
-pub usable-count : (W h : ℕ) → 0 < W → passing (usable W h) (2 ^ h) ≡ F W h
-usable-count W h pos = F-counts W pos (usable W) (λ h x. usable-gaps W h x pos) h
-
--- F(h) is how many codes below 2^h are usable
-pub F-usable : (W h : ℕ) → 0 < W → length (usableCodes W h) ≡ F W h
-unfolding usableCodes
-F-usable W h pos = length-passing (usable W h) 0 (2 ^ h) ∙ usable-count W h pos
-
 -- ---- no plan has fewer steps
 
 module _ (p : Plan) (f : Listed (p .night .lengths) (p .night .inbound)) (pos : 0 < p .night .tracks) (sorts : Sorts p) where
   u : ℕ → Bool
-  u = usable (p .night .tracks) (p .steps)
+  u = allowed (p .night .closed) (p .night .tracks) (p .steps)
 
-  car-usable : (car : ℕ) → Within 1 (length (p .night .inbound)) car → u (codeOf p car) ≡ true
+  car-allowed : (car : ℕ) → Within 1 (length (p .night .inbound)) car → u (codeOf p car) ≡ true
   unfolding u
-  car-usable car w =
-      usable-gaps (p .night .tracks) (p .steps) (codeOf p car) pos .1
-      (never-gaps p pos .0 (sorts .never) car (omega (arith, came-once (p .night .lengths) (p .night .inbound) f car w)))
+  car-allowed car w =
+      usable-allowed (p .night .closed) (p .night .tracks) (p .steps) (codeOf p car)
+      (clear-some p f pos (sorts .codes) (sorts .clear) car w)
+      (usable-gaps (p .night .tracks) (p .steps) (codeOf p car) pos .1
+      (never-gaps p pos .0 (sorts .never) car (omega (arith, came-once (p .night .lengths) (p .night .inbound) f car w))))
 
-  -- the breaks before a car are at most the usable codes below its own
+  -- the breaks before a car are at most the allowed codes below its own
   breaks-below : (i d : ℕ) → i < length (p .night .lengths) → d < itemOf (p .night .lengths) (suc i)
       → breaks (p .night .inbound) (firstCar (p .night .lengths) (suc i)) d ≤ passing u (codeOf p (firstCar (p .night .lengths) (suc i) + d))
   breaks-below i zero m b = omega arith
@@ -94,7 +90,7 @@ module _ (p : Plan) (f : Listed (p .night .lengths) (p .night .inbound)) (pos : 
             next,
             breaks-suc inbound head d,
             ap tally e,
-            passing-suc u (codeOf p j) (car-usable j (cars-train (p .night .lengths) inbound f i j m (omega arith) (omega arith) .1)),
+            passing-suc u (codeOf p j) (car-allowed j (cars-train (p .night .lengths) inbound f i j m (omega arith) (omega arith) .1)),
             passing-mono u (suc (codeOf p j)) (codeOf p (suc j)) (ltb-true (codeOf p j) (codeOf p (suc j)) rule),
           )
       go false e rule le =
@@ -106,17 +102,18 @@ module _ (p : Plan) (f : Listed (p .night .lengths) (p .night .inbound)) (pos : 
             passing-mono u (codeOf p j) (codeOf p (suc j)) (leb-true (codeOf p j) (codeOf p (suc j)) rule),
           )
 
-  -- so the breaks of a train, and one more, are at most the usable codes there are
-  train-breaks : (t : ℕ) → Within 1 (length (p .night .lengths)) t → breaksIn (p .night .lengths) (p .night .inbound) t < F (p .night .tracks) (p .steps)
+  -- so the breaks of a train, and one more, are at most the allowed codes there are
+  train-breaks : (t : ℕ) → Within 1 (length (p .night .lengths)) t
+      → breaksIn (p .night .lengths) (p .night .inbound) t + tally (p .night .closed) < F (p .night .tracks) (p .steps)
   unfolding u
   train-breaks zero w = absurd (omega (arith, w .0))
   train-breaks (suc i) w =
       omega (
         arith,
         breaks-below i d (w .1) (omega (arith, some)),
-        passing-suc u (codeOf p last) (car-usable last (here .1)),
+        passing-suc u (codeOf p last) (car-allowed last (here .1)),
         passing-mono u (suc (codeOf p last)) (2 ^ p .steps) (sorts .codes .below last (here .1 .0, omega (arith, here .1 .1, sorts .codes .each))),
-        usable-count (p .night .tracks) (p .steps) pos,
+        allowed-count (p .night .closed) (p .night .tracks) (p .steps) pos,
       )
     where
       some : 1 ≤ itemOf (p .night .lengths) (suc i)
@@ -141,10 +138,12 @@ module _ (p : Plan) (f : Listed (p .night .lengths) (p .night .inbound)) (pos : 
       inbound : List ℕ
       inbound = p .night .inbound
 
+      -- a closed night needs a code more
       c : ℕ
-      c = mostBreaks lengths inbound
+      c = mostBreaks lengths inbound + tally (p .night .closed)
 
-      reached : ((t : ℕ) × (0 < count t (upFrom 1 (length lengths))) × (breaksIn lengths inbound t ≡ c)) → fewestSteps (p .night .tracks) c ≤ p .steps
+      reached : ((t : ℕ) × (0 < count t (upFrom 1 (length lengths))) × (breaksIn lengths inbound t ≡ mostBreaks lengths inbound))
+          → fewestSteps (p .night .tracks) c ≤ p .steps
       reached r =
           let b = upFrom-bounds (r .0) 1 (length lengths) (r .1) in
           let enough : c < F (p .night .tracks) (p .steps) = omega (arith, r .2, train-breaks (r .0) (b .0, omega (arith, b .1))) in

@@ -13,7 +13,7 @@ use Rattle.scan.specs.Front.{Front}
 use Rattle.scan.proofs.Front.{front-items}
 use Rattle.sorting.specs.declared.early.Early.the-variants.{At, Never}
 use Rattle.sorting.specs.Early.{earlyFound}
-use Rattle.sorting.specs.Closed.{earlyAnswer, waitTest}
+use Rattle.sorting.specs.Worked.{earlyAnswer, waitTest}
 
 -- what the search found is told as the test tells it
 pub told-early : (W h : ℕ) (codes : List ℕ) → earlyAnswer (earlyFound W h codes) ≡ waitTest W h codes
