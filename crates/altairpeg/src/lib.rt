@@ -1,12 +1,14 @@
 // The face: every public call under one roof, under the names by which C, Rust and Python link it.
 // None asks anything of its caller, and each promise is that of the call behind it, word for word. include/altairpeg.h tells the same to C.
+// A mark comes from C as a number: 0 is open, and any other is closed, so that no number is left without a meaning.
 use yard::Answer;
 use yard::CardAnswer;
 use yard::Counts;
 use yard::PriceAnswer;
 use yard::Timings;
 ghost use mathlib.Core.Path.{_≡_};
-ghost use Rattle.yard.specs.Night.{planGiven, nightGiven};
+ghost use mathlib.Core.Bool.{false};
+ghost use Rattle.yard.specs.Night.{planGiven, nightGiven, closedBy};
 ghost use Rattle.yard.specs.Codes.{fewestTracks};
 ghost use Rattle.yard.specs.Calls.{Derives, Checks, Replays};
 ghost use Rattle.yard.specs.Card.{Reads, Writes};
@@ -17,12 +19,13 @@ ghost use Rattle.yard.specs.Price.{Prices};
 pub extern "C" fn altairpeg_derive(
     lengths: &[u16],
     inbound: &[u16],
+    mark: usize,
     counts: Counts,
     codes: &mut [u16],
 ) -> Answer
-    ensures { λ r. ⌜ Derives (nightGiven (now (lengths .entry)) (now (inbound .entry)) counts) (counts .steps) (now (codes .entry)) r (now (codes .exit)) ⌝ }
+    ensures { λ r. ⌜ Derives (nightGiven (now (lengths .entry)) (now (inbound .entry)) (closedBy mark) counts) (counts .steps) (now (codes .entry)) r (now (codes .exit)) ⌝ }
 {
-    derive::derive(lengths, inbound, counts, codes)
+    derive::derive(lengths, inbound, mark != 0, counts, codes)
 }
 
 // Check: a plan offered by anyone, accepted or refused by its replay.
@@ -31,11 +34,12 @@ pub extern "C" fn altairpeg_check(
     lengths: &[u16],
     inbound: &[u16],
     codes: &[u16],
+    mark: usize,
     counts: Counts,
 ) -> Answer
-    ensures { λ r. ⌜ Checks (planGiven (now (lengths .entry)) (now (inbound .entry)) (now (codes .entry)) counts) r ⌝ }
+    ensures { λ r. ⌜ Checks (planGiven (now (lengths .entry)) (now (inbound .entry)) (now (codes .entry)) (closedBy mark) counts) r ⌝ }
 {
-    plans::check(lengths, inbound, codes, counts)
+    plans::check(lengths, inbound, codes, mark != 0, counts)
 }
 
 // Replay: each car's track and place at a stage into the lent buffers, and the passes up to it as the answer.
@@ -44,18 +48,19 @@ pub extern "C" fn altairpeg_replay(
     lengths: &[u16],
     inbound: &[u16],
     codes: &[u16],
+    mark: usize,
     counts: Counts,
     stage: usize,
     on: &mut [u16],
     at: &mut [u16],
 ) -> Answer
-    ensures { λ r. ⌜ Replays (planGiven (now (lengths .entry)) (now (inbound .entry)) (now (codes .entry)) counts) stage
+    ensures { λ r. ⌜ Replays (planGiven (now (lengths .entry)) (now (inbound .entry)) (now (codes .entry)) (closedBy mark) counts) stage
         (now (on .entry)) (now (at .entry)) r (now (on .exit)) (now (at .exit)) ⌝ }
 {
-    plans::replay(lengths, inbound, codes, counts, stage, on, at)
+    plans::replay(lengths, inbound, codes, mark != 0, counts, stage, on, at)
 }
 
-// Read: a card's lengths, inbound numbers and codes into the lent buffers, and its numbers as the answer.
+// Read: a card's lengths, inbound numbers and codes into the lent buffers, and its mark and numbers as the answer.
 #[no_mangle]
 pub extern "C" fn altairpeg_read(
     card: &[u8],
@@ -69,7 +74,7 @@ pub extern "C" fn altairpeg_read(
     card::read(card, lengths, inbound, codes)
 }
 
-// Write: the card of a plan into the lent buffer, and its length as the answer.
+// Write: the card of a plan of an open night into the lent buffer, and its length as the answer.
 #[no_mangle]
 pub extern "C" fn altairpeg_write(
     lengths: &[u16],
@@ -78,7 +83,7 @@ pub extern "C" fn altairpeg_write(
     counts: Counts,
     card: &mut [u8],
 ) -> Answer
-    ensures { λ r. ⌜ Writes (planGiven (now (lengths .entry)) (now (inbound .entry)) (now (codes .entry)) counts) (now (card .entry)) r (now (card .exit)) ⌝ }
+    ensures { λ r. ⌜ Writes (planGiven (now (lengths .entry)) (now (inbound .entry)) (now (codes .entry)) false counts) (now (card .entry)) r (now (card .exit)) ⌝ }
 {
     card::write(lengths, inbound, codes, counts, card)
 }

@@ -1,23 +1,24 @@
 -- The two calls together, on what they promise: a written card is read back, and a card that is read is the one that is written.
 use Prim.Native.Nat.{ℕ, _≤_}
 use mathlib.Core.Path.{_≡_, refl, sym, ap, _∙_}
+use mathlib.Core.Bool.{Bool, false}
 use mathlib.Core.List.{List, _++_}
 use native.Mathlib.Omega.{arith}
 use lib.ListN.{length, take, length-append}
 use Rattle.yard.specs.declared.Answer.{Answer}
 use Rattle.yard.specs.declared.CardAnswer.{CardAnswer}
-use Rattle.yard.specs.Night.{Plan, planOf}
+use Rattle.yard.specs.Night.{Plan, planOf, closedBy}
 use Rattle.yard.specs.Limits.{limits}
 use Rattle.yard.specs.Answers.{written}
 use Rattle.yard.specs.Card.{card, cardPlan, writerAnswer, Writes, Reads}
 use Rattle.yard.proofs.general.Fronts.{front-taken}
-use Rattle.yard.proofs.cards.Card.{cardPlan-cars, cardPlan-codes}
+use Rattle.yard.proofs.cards.Card.{cardPlan-cars, cardPlan-codes, cardPlan-open}
 use Rattle.yard.proofs.cards.CardCalls.{Told, read-told, written-then-read, read-then-written}
 
--- the plan that a caller of the reader has in hand: the first items of the buffers, and the answer's numbers
+-- the plan that a caller of the reader has in hand: the first items of the buffers, and the answer's mark and numbers
 abbrev pub planRead : CardAnswer → List ℕ → List ℕ → List ℕ → Plan
 planRead r lengths inbound codes =
-    planOf (take (r .trains) lengths) (take (r .cars) inbound) (r .tracks) (r .room) (r .steps) (take (r .cars) codes)
+    planOf (take (r .trains) lengths) (take (r .cars) inbound) (closedBy (r .mark)) (r .tracks) (r .room) (r .steps) (take (r .cars) codes)
 
 -- after an acceptance that is the plan of the card
 pub plan-read : {bytes l i c : List ℕ} {r : CardAnswer} {l₁ i₁ c₁ : List ℕ}
@@ -31,22 +32,23 @@ plan-read {bytes} {l} {i} {c} {r} {l₁} {i₁} {c₁} reads e =
     let lengths = front-taken (p .night .lengths) l (told .lengths) (sym (ap (λ r. r .trains) (told .answer))) in
     let inbound = front-taken (p .night .inbound) i (told .inbound) (sym (ap (λ r. r .cars) (told .answer))) in
     let codes = front-taken (p .codes) c (told .codes) (sym (ap (λ r. r .cars) (told .answer) ∙ coded)) in
-    ap (λ x. planOf x (take (r .cars) i₁) (r .tracks) (r .room) (r .steps) (take (r .cars) c₁)) lengths
-    ∙ ap (λ x. planOf (p .night .lengths) x (r .tracks) (r .room) (r .steps) (take (r .cars) c₁)) inbound
-    ∙ ap (λ x. planOf (p .night .lengths) (p .night .inbound) (r .tracks) (r .room) (r .steps) x) codes
-    ∙ ap (λ r. planOf (p .night .lengths) (p .night .inbound) (r .tracks) (r .room) (r .steps) (p .codes)) (told .answer)
+    ap (λ x. planOf x (take (r .cars) i₁) (closedBy (r .mark)) (r .tracks) (r .room) (r .steps) (take (r .cars) c₁)) lengths
+    ∙ ap (λ x. planOf (p .night .lengths) x (closedBy (r .mark)) (r .tracks) (r .room) (r .steps) (take (r .cars) c₁)) inbound
+    ∙ ap (λ x. planOf (p .night .lengths) (p .night .inbound) (closedBy (r .mark)) (r .tracks) (r .room) (r .steps) x) codes
+    ∙ ap (λ r. planOf (p .night .lengths) (p .night .inbound) (closedBy (r .mark)) (r .tracks) (r .room) (r .steps) (p .codes)) (told .answer)
+    ∙ ap (λ (b : Bool). planOf (p .night .lengths) (p .night .inbound) b (p .night .tracks) (p .night .room) (p .steps) (p .codes)) (sym (cardPlan-open bytes))
 
--- What `write` wrote `read` takes back: the numbers in the answer, the items of each list at the front of its buffer.
+-- What `write` wrote `read` takes back: the mark and the numbers in the answer, the items of each list at the front of its buffer.
 pub write-then-read : {lengths inbound codes : List ℕ} {tracks room steps : ℕ} {before : List ℕ} {w : Answer} {after : List ℕ}
     {l i c : List ℕ} {r : CardAnswer} {l₁ i₁ c₁ : List ℕ}
-    → Writes (planOf lengths inbound tracks room steps codes) before w after
+    → Writes (planOf lengths inbound false tracks room steps codes) before w after
     → w .number ≡ 0
     → Reads (take (w .a) after) l i c r l₁ i₁ c₁
     → length lengths ≤ length l
     → length inbound ≤ length i
     → length codes ≤ length c
-    → Told (planOf lengths inbound tracks room steps codes) l i c r l₁ i₁ c₁
-write-then-read = written-then-read
+    → Told (planOf lengths inbound false tracks room steps codes) l i c r l₁ i₁ c₁
+write-then-read = written-then-read refl
 
 -- A card that `read` accepts is byte for byte the one that `write` makes of what was read.
 pub read-then-write : {bytes l i c : List ℕ} {r : CardAnswer} {l₁ i₁ c₁ before : List ℕ} {w : Answer} {after : List ℕ}

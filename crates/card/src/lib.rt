@@ -5,10 +5,11 @@ use yard::CardAnswer;
 use yard::Counts;
 use yard::Head;
 ghost use mathlib.Core.Path.{_≡_};
+ghost use mathlib.Core.Bool.{false};
 ghost use Rattle.yard.specs.Night.{planOf, planGiven};
 ghost use Rattle.yard.specs.Card.{readerSays, Reads, Writes};
 
-// The reader's answer: the verdict, and the numbers of a head.
+// The reader's answer: the verdict, the mark of an open night, which is the one that edition 1 means, and the numbers of a head.
 fn told(verdict: Answer, head: Head) -> CardAnswer
     ensures { λ r. ⌜ r ≡ readerSays verdict head ⌝ }
 {
@@ -16,6 +17,7 @@ fn told(verdict: Answer, head: Head) -> CardAnswer
         number: verdict.number,
         a: verdict.a,
         b: verdict.b,
+        mark: 0,
         steps: head.steps,
         tracks: head.tracks,
         room: head.room,
@@ -59,7 +61,7 @@ pub fn read(card: &[u8], lengths: &mut [u16], inbound: &mut [u16], codes: &mut [
     told(verdict, head)
 }
 
-// Writes the card of a plan, and answers its length.
+// Writes the card of a plan of an open night, and answers its length: edition 1 means no other, so there is no mark to give.
 pub fn write(
     lengths: &[u16],
     inbound: &[u16],
@@ -67,7 +69,7 @@ pub fn write(
     counts: Counts,
     card: &mut [u8],
 ) -> Answer
-    ensures { λ r. ⌜ Writes (planGiven (now (lengths .entry)) (now (inbound .entry)) (now (codes .entry)) counts)
+    ensures { λ r. ⌜ Writes (planGiven (now (lengths .entry)) (now (inbound .entry)) (now (codes .entry)) false counts)
         (now (card .entry)) r (now (card .exit)) ⌝ }
 {
     let head = Head {

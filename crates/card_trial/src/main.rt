@@ -28,7 +28,7 @@ fn told(number: usize) {
 }
 
 // Prints a name, which closes the line.
-fn closed(name: &[u8]) {
+fn ended(name: &[u8]) {
     io::write_all(1, name);
     io::write_all(1, b"\n");
 }
@@ -38,7 +38,7 @@ fn printed(list: &[u16], name: &[u8]) {
     for i in 0..list.len() {
         told(list[i] as usize);
     }
-    closed(name);
+    ended(name);
 }
 
 // Prints a number, A and B.
@@ -62,7 +62,7 @@ fn tried(bytes: &[u8], trains: usize, cars: usize, codes: usize, name: &[u8])
         &mut coded[0..codes],
     );
     answered(r.number, r.a, r.b);
-    closed(name);
+    ended(name);
 }
 
 // The card with one byte changed.
@@ -77,9 +77,9 @@ fn changed(at: usize, byte: u8, name: &[u8])
 // Prints what is so.
 fn compared(same: bool, name: &[u8], other: &[u8]) {
     if same {
-        closed(name);
+        ended(name);
     } else {
-        closed(other);
+        ended(other);
     }
 }
 
@@ -93,7 +93,7 @@ fn written(lengths: &[u16], inbound: &[u16], codes: &[u16], r: yard::CardAnswer,
     };
     let w = card::write(lengths, inbound, codes, counts, &mut again);
     answered(w.number, w.a, w.b);
-    closed(b"written");
+    ended(b"written");
     let behind = [255u8; 2];
     compared(
         check::same(&again[0..16], bytes),
@@ -119,7 +119,7 @@ fn back(bytes: &[u8]) {
     told(r.room);
     told(r.cars);
     told(r.trains);
-    closed(b"read");
+    ended(b"read");
     printed(&lengths, b"lengths");
     printed(&inbound, b"inbound");
     printed(&codes, b"codes");

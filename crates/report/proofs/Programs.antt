@@ -12,7 +12,7 @@ use borrow.Author.Tests.{eq-eqb, ne-eqb, le-leb, lt-leb}
 use Rattle.yard.specs.declared.Answer.{Answer}
 use Rattle.yard.specs.declared.CardAnswer.{CardAnswer}
 use Rattle.yard.specs.Limits.{limits}
-use Rattle.yard.specs.Night.{Night, Plan, carsOf, planOf}
+use Rattle.yard.specs.Night.{Night, Plan, carsOf, planOf, closedBy}
 use Rattle.yard.specs.Replay.{passes, built}
 use Rattle.yard.specs.Derived.{stepsNeeded, derivedCodes, derivedPlan}
 use Rattle.yard.specs.Answers.{says, onto}
@@ -106,9 +106,11 @@ module _ {bytes : List ℕ} {r : CardAnswer} {l₁ i₁ c₁ : List ℕ} (reads 
     pub card-done : {same : Plan → List ℕ}
         → same ≡ out
         → r .number ≡ 0
-        → same (planOf (take (r .trains - 0) l₁) (take (r .cars - 0) i₁) (r .tracks) (r .room) (r .steps) (take (r .cars - 0) c₁)) ≡ ofCard out bytes
+        → same (planOf (take (r .trains - 0) l₁) (take (r .cars - 0) i₁) false (r .tracks) (r .room) (r .steps) (take (r .cars - 0) c₁)) ≡ ofCard out bytes
     card-done {same} f e =
-        ap₂ (λ (m n : ℕ). same (planOf (take m l₁) (take n i₁) (r .tracks) (r .room) (r .steps) (take n c₁))) (sub-zero (r .trains)) (sub-zero (r .cars))
+        ap₂ (λ (m n : ℕ). same (planOf (take m l₁) (take n i₁) false (r .tracks) (r .room) (r .steps) (take n c₁))) (sub-zero (r .trains)) (sub-zero (r .cars))
+        ∙ ap (λ (b : Bool). same (planOf (take (r .trains) l₁) (take (r .cars) i₁) b (r .tracks) (r .room) (r .steps) (take (r .cars) c₁)))
+        (sym (ap (λ (q : CardAnswer). closedBy (q .mark)) (read-told reads e .answer)))
         ∙ ap same (plan-read reads e)
         ∙ ap (λ o. o (cardPlan bytes)) f
         ∙ sym (told-done (readerVerdict limits bytes 64 512 512) (out (cardPlan bytes)) (sym (ap (λ q. q .number) promised) ∙ e))
@@ -163,7 +165,7 @@ module _ (n : Night) {after : List ℕ} {r : Answer} (derives : Derives n 8 (emp
         (found ∙ verdict-done (deriveTests limits n 8 512) (says 0 (stepsNeeded n) (passes (derivedPlan n) (stepsNeeded n))) derive-done)
 
     -- the plan that is drawn is the derived one
-    plan-derived : planOf (n .lengths) (n .inbound) (n .tracks) (n .room) (r .a) (take (length (n .inbound) - 0) after) ≡ derivedPlan n
+    plan-derived : planOf (n .lengths) (n .inbound) (n .closed) (n .tracks) (n .room) (r .a) (take (length (n .inbound) - 0) after) ≡ derivedPlan n
     unfolding derivedPlan
     plan-derived =
         ap₂ (λ (h : ℕ) (codes : List ℕ). record { night = n; steps = h; codes = codes }) steps-needed
@@ -173,7 +175,7 @@ module _ (n : Night) {after : List ℕ} {r : Answer} (derives : Derives n 8 (emp
     module _
         {unused drawn : List ℕ}
         {w : Answer}
-        (writes : Writes (planOf (n .lengths) (n .inbound) (n .tracks) (n .room) (r .a) (take (length (n .inbound) - 0) after)) unused w drawn)
+        (writes : Writes (planOf (n .lengths) (n .inbound) (n .closed) (n .tracks) (n .room) (r .a) (take (length (n .inbound) - 0) after)) unused w drawn)
       where
         writes-derived : Writes (derivedPlan n) unused w drawn
         writes-derived = subst (λ (p : Plan). Writes p unused w drawn) plan-derived writes

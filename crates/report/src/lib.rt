@@ -4,6 +4,7 @@ mod edge; // edge.rt: the programs' reading and writing
 pub use edge::Taken;
 pub use edge::input;
 pub use edge::said;
+ghost use mathlib.Core.Bool.{false};
 ghost use lib.ListN.{length};
 ghost use Rattle.io.specs.Counts.{Counts};
 ghost use Rattle.yard.specs.Night.{nightOf, planGiven};
@@ -55,7 +56,7 @@ fn put_out(card: &[u8], out: &mut [u8], anew: bool) -> usize
     plan(out, trains, order, &codes[0..n], counts)
 }
 
-// The lines of a plan: refused by check, or its counts and its trains as the replay built them, which
+// The lines of a plan of an open night, as edition 1 means it: refused by check, or its counts and its trains as the replay built them, which
 // are in order (`trains-built` in proofs/Programs.antt).
 fn plan(
     text: &mut [u8],
@@ -64,10 +65,10 @@ fn plan(
     codes: &[u16],
     counts: yard::Counts,
 ) -> usize
-    ensures { λ r. ⌜ Adds (checkedLines (planGiven (now (lengths .entry)) (now (inbound .entry)) (now (codes .entry)) counts))
+    ensures { λ r. ⌜ Adds (checkedLines (planGiven (now (lengths .entry)) (now (inbound .entry)) (now (codes .entry)) false counts))
         (now (text .entry)) 0 r (now (text .exit)) ⌝ }
 {
-    let checked = plans::check(lengths, inbound, codes, counts);
+    let checked = plans::check(lengths, inbound, codes, false, counts);
     if checked.number != 0 {
         return lines::refusal(text, checked.number, checked.a, checked.b);
     }
@@ -84,10 +85,10 @@ fn plan(
     lines::trains(text, end, lengths)
 }
 
-// The card of the plan that is derived for a night with limit 8, or the refusal: derive's, or the
+// The card of the plan that is derived for an open night with limit 8, or the refusal: derive's, or the
 // writer's where the buffer is too short.
 fn derived(lengths: &[u16], inbound: &[u16], tracks: usize, room: usize, out: &mut [u8]) -> usize
-    ensures { λ r. ⌜ Adds (ofDerived (cardIn (length (now (out .entry)))) (nightOf (now (lengths .entry)) (now (inbound .entry)) tracks room))
+    ensures { λ r. ⌜ Adds (ofDerived (cardIn (length (now (out .entry)))) (nightOf (now (lengths .entry)) (now (inbound .entry)) false tracks room))
         (now (out .entry)) 0 r (now (out .exit)) ⌝ }
 {
     let mut codes = [0u16; yard::CARS];
@@ -96,7 +97,7 @@ fn derived(lengths: &[u16], inbound: &[u16], tracks: usize, room: usize, out: &m
         room,
         steps: yard::STEPS,
     };
-    let found = derive::derive(lengths, inbound, asked, &mut codes);
+    let found = derive::derive(lengths, inbound, false, asked, &mut codes);
     if found.number != 0 {
         return lines::refusal(out, found.number, found.a, found.b);
     }

@@ -36,6 +36,7 @@ fn trial(
     name: &[u8],
     lengths: &[u16],
     inbound: &[u16],
+    closed: bool,
     tracks: usize,
     room: usize,
     limit: usize,
@@ -49,7 +50,7 @@ fn trial(
         room,
         steps: limit,
     };
-    let r = derive::derive(lengths, inbound, counts, &mut codes);
+    let r = derive::derive(lengths, inbound, closed, counts, &mut codes);
     answered(r);
     io::write_all(1, b"- ");
     listed(&codes[0..shown]);
@@ -72,7 +73,7 @@ fn reversed(name: &[u8], n: usize, tracks: usize, shown: usize)
     let mut inbound = [0u16; 512];
     turned(&mut inbound, n);
     let lengths = [n as u16];
-    trial(name, &lengths, &inbound[0..n], tracks, 512, 8, shown);
+    trial(name, &lengths, &inbound[0..n], false, tracks, 512, 8, shown);
 }
 
 // The night N on so many tracks.
@@ -81,6 +82,7 @@ fn night_n(name: &[u8], tracks: usize, room: usize, limit: usize) {
         name,
         &[6u16],
         &[3u16, 6, 1, 5, 2, 4],
+        false,
         tracks,
         room,
         limit,
@@ -94,6 +96,7 @@ fn checked(
     lengths: &[u16],
     inbound: &[u16],
     codes: &[u16],
+    closed: bool,
     tracks: usize,
     steps: usize,
 ) {
@@ -102,23 +105,24 @@ fn checked(
         room: yard::ROOM,
         steps,
     };
-    answered(plans::check(lengths, inbound, codes, counts));
+    answered(plans::check(lengths, inbound, codes, closed, counts));
     named(name);
 }
 
-// Replays a plan of the night N on two tracks, of two steps, to a stage, and writes the answer and seven items of each buffer.
-fn staged(name: &[u8], codes: &[u16], stage: usize) {
+// Replays a plan of the night N on two tracks to a stage, and writes the answer and seven items of each buffer.
+fn staged(name: &[u8], codes: &[u16], closed: bool, steps: usize, stage: usize) {
     let mut on = [77u16; 8];
     let mut at = [77u16; 8];
     let counts = yard::Counts {
         tracks: 2,
         room: yard::ROOM,
-        steps: 2,
+        steps,
     };
     answered(plans::replay(
         &[6u16],
         &[3u16, 6, 1, 5, 2, 4],
         codes,
+        closed,
         counts,
         stage,
         &mut on,
@@ -139,23 +143,40 @@ fn wrong_plans() {
         &[6u16],
         &inbound,
         &[0u16, 0, 0, 1, 2, 3],
+        false,
         2,
         2,
     );
-    staged(b"6: the end", &[0u16, 0, 0, 1, 2, 3], 2);
-    checked(b"11: code 4 on two tracks", &[1u16], &[1u16], &[4u16], 2, 3);
-    checked(b"12: 1 1", &[2u16], &[1u16, 1], &[0u16, 0], 2, 1);
+    staged(b"6: the end", &[0u16, 0, 0, 1, 2, 3], false, 2, 2);
+    checked(
+        b"11: code 4 on two tracks",
+        &[1u16],
+        &[1u16],
+        &[4u16],
+        false,
+        2,
+        3,
+    );
+    checked(b"12: 1 1", &[2u16], &[1u16, 1], &[0u16, 0], false, 2, 1);
 }
 
 // The derived plan of case 1: checked, and replayed to each stage and past the last.
 fn good_plan() {
     let inbound = [3u16, 6, 1, 5, 2, 4];
     let codes = [0u16, 0, 1, 1, 2, 3];
-    checked(b"1: the derived plan", &[6u16], &inbound, &codes, 2, 2);
-    staged(b"2: stage 0", &codes, 0);
-    staged(b"3: stage 1", &codes, 1);
-    staged(b"the end", &codes, 2);
-    staged(b"past the end", &codes, 3);
+    checked(
+        b"1: the derived plan",
+        &[6u16],
+        &inbound,
+        &codes,
+        false,
+        2,
+        2,
+    );
+    staged(b"2: stage 0", &codes, false, 2, 0);
+    staged(b"3: stage 1", &codes, false, 2, 1);
+    staged(b"the end", &codes, false, 2, 2);
+    staged(b"past the end", &codes, false, 2, 3);
 }
 
 // Request #101: a number met before is told with its first listing, one out of range with 0.
@@ -166,6 +187,7 @@ fn listings() {
         &[5u16],
         &[2u16, 1, 3, 1, 3],
         &codes,
+        false,
         2,
         1,
     );
@@ -174,8 +196,72 @@ fn listings() {
         &[5u16],
         &[2u16, 1, 6, 6, 3],
         &codes,
+        false,
         2,
         1,
+    );
+}
+
+// Request #103: the night N and one car, closed; then zero codes, where 7 comes before 14 and 14 before 8, and the same plan open.
+fn closed_nights() {
+    let inbound = [3u16, 6, 1, 5, 2, 4];
+    let codes = [1u16, 1, 2, 2, 3, 5];
+    trial(b"103: N closed", &[6u16], &inbound, true, 2, 512, 8, 7);
+    checked(
+        b"103: the derived plan",
+        &[6u16],
+        &inbound,
+        &codes,
+        true,
+        2,
+        3,
+    );
+    staged(b"103: stage 0", &codes, true, 3, 0);
+    staged(b"103: the end", &codes, true, 3, 3);
+    trial(b"103: one car", &[1u16], &[1u16], true, 2, 512, 8, 2);
+    trial(
+        b"103: one car, limit 0",
+        &[1u16],
+        &[1u16],
+        true,
+        2,
+        512,
+        0,
+        2,
+    );
+    staged(
+        b"103: cars 3 and 5 with code 0",
+        &[1u16, 1, 0, 1, 0, 3],
+        true,
+        2,
+        0,
+    );
+    checked(
+        b"103: 0 2, one step",
+        &[2u16],
+        &[1u16, 2],
+        &[0u16, 2],
+        true,
+        2,
+        1,
+    );
+    checked(
+        b"103: 4 0, three steps",
+        &[2u16],
+        &[1u16, 2],
+        &[4u16, 0],
+        true,
+        2,
+        3,
+    );
+    checked(
+        b"103: 4 0, open",
+        &[2u16],
+        &[1u16, 2],
+        &[4u16, 0],
+        false,
+        2,
+        3,
     );
 }
 
@@ -183,13 +269,32 @@ fn main() {
     good_plan();
     wrong_plans();
     listings();
+    closed_nights();
     night_n(b"1: N", 2, 512, 8);
     night_n(b"4: N on one track", 1, 512, 8);
     night_n(b"5: N with room for 2", 2, 2, 8);
     night_n(b"5: N with room for 3", 2, 3, 8);
-    trial(b"7: one car", &[1u16], &[1u16], 2, 512, 8, 2);
-    trial(b"8: 2 1, two trains", &[1u16, 1], &[2u16, 1], 2, 512, 8, 3);
-    trial(b"8: 2 1, one train", &[2u16], &[2u16, 1], 2, 512, 8, 3);
+    trial(b"7: one car", &[1u16], &[1u16], false, 2, 512, 8, 2);
+    trial(
+        b"8: 2 1, two trains",
+        &[1u16, 1],
+        &[2u16, 1],
+        false,
+        2,
+        512,
+        8,
+        3,
+    );
+    trial(
+        b"8: 2 1, one train",
+        &[2u16],
+        &[2u16, 1],
+        false,
+        2,
+        512,
+        8,
+        3,
+    );
     reversed(b"9: seven reversed", 7, 2, 8);
     reversed(b"10: eight reversed", 8, 2, 9);
     reversed(b"10: eight reversed on three tracks", 8, 3, 9);

@@ -1,5 +1,6 @@
 -- The proof of `write`: a plan that is accepted is drawn, and else nothing is written.
 use mathlib.Core.Path.{refl}
+use mathlib.Core.Bool.{false}
 use denote.Ref.{now}
 use borrow.Author.Needs.{needs}
 use Rattle.yard.specs.Night.{Plan, planOf}
@@ -9,7 +10,7 @@ use Rattle.card.proofs.write.Tie as tie
 
 plan : tie.Start → Plan
 plan c =
-    planOf (now (c .args .lengths)) (now (c .args .inbound)) (c .args .counts .tracks) (c .args .counts .room) (c .args .counts .steps) (now (c .args .codes))
+    planOf (now (c .args .lengths)) (now (c .args .inbound)) false (c .args .counts .tracks) (c .args .counts .room) (c .args .counts .steps) (now (c .args .codes))
 
 draw-requires : tie.Need-draw-requires
 unfolding plan

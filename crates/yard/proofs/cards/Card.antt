@@ -122,6 +122,11 @@ cardPlan-card p f free =
     rw (card-head p f, card-lists p f, take-append-seam, drop-append-seam, take-append-seam, drop-append-seam)
     (ap (λ (b : Bool). planOf (p .night .lengths) (p .night .inbound) b (p .night .tracks) (p .night .room) (p .steps) (p .codes)) (sym free))
 
+-- the plan of a card is one of an open night
+pub cardPlan-open : (bytes : List ℕ) → cardPlan bytes .night .closed ≡ false
+unfolding cardPlan
+cardPlan-open bytes = refl
+
 pub card-right-length : (p : Plan) → Fitting p → rightLength (card p) ≡ length (card p)
 unfolding rightLength
 card-right-length p f = rw (card-head p f) (sym (card-length p (f .coded)))

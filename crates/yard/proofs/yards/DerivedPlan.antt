@@ -210,8 +210,7 @@ module _ (n : Night) (f : Listed (n .lengths) (n .inbound)) where
     derived-sorts =
         coded-sorts n f pos H (λ car. code (number car))
         (λ car w.
-        let (here, below) = codeNumber-allowed (n .closed) W H pos (number car) (breaks-fit car w) in
-        (
+        let (here, below) = codeNumber-allowed (n .closed) W H pos (number car) (breaks-fit car w) in (
           below,
           usable-gaps W H (code (number car)) pos .0 (allowed-usable (n .closed) W H (code (number car)) here),
           allowed-some (n .closed) W H (code (number car)) here,
