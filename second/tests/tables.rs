@@ -1,9 +1,12 @@
 //! The tables of the paper, and its statements on codes, tried over all of them.
 
 use second::steps::{
-    counted_codes, fewest_steps, fewest_tracks, is_usable, recursive_counts, usable_codes,
+    fewest_steps, fewest_tracks, is_usable, kept_codes, recursive_counts, recursive_steps,
+    usable_codes,
 };
 use second::yard::is_pulled_in;
+use second::Mark::{Closed, Open};
+use second::MARKS;
 
 /// The paper's rows: tracks, then F(0) to F(8).
 const ROWS: [(usize, [usize; 9]); 4] = [
@@ -18,10 +21,21 @@ fn counted_codes_give_the_table() {
     for (tracks, row) in ROWS {
         for (steps, wanted) in row.into_iter().enumerate() {
             assert_eq!(
-                counted_codes(tracks, steps),
+                kept_codes(Open, tracks, steps).len(),
                 wanted,
                 "F({steps}) on {tracks}"
             );
+        }
+    }
+}
+
+#[test]
+fn a_closed_night_has_the_same_codes_but_0() {
+    for tracks in 1..=8 {
+        for steps in 0..=8 {
+            let (open, closed) = MARKS.map(|mark| kept_codes(mark, tracks, steps)).into();
+            assert_eq!(open[0], 0, "{steps} steps on {tracks}");
+            assert_eq!(open[1..], *closed, "{steps} steps on {tracks}");
         }
     }
 }
@@ -40,7 +54,7 @@ fn counting_and_recursion_agree_beyond_the_table() {
         let by_recursion = recursive_counts(tracks, 10_000);
         for (steps, &count) in by_recursion.iter().enumerate().take(12) {
             assert_eq!(
-                usable_codes(tracks, steps).len(),
+                usable_codes(Open, tracks, steps).len(),
                 count,
                 "F({steps}) on {tracks}"
             );
@@ -67,7 +81,7 @@ fn keeps_the_gap_rule(code: u16, tracks: usize) -> bool {
 fn no_early_pull_exactly_where_the_gap_rule_holds() {
     for tracks in 1..=8 {
         for code in 0..256 {
-            let usable = is_usable(code, tracks, 8);
+            let usable = is_usable(Open, code, tracks, 8);
             assert_eq!(
                 usable,
                 keeps_the_gap_rule(code, tracks),
@@ -83,7 +97,7 @@ fn more_tracks_never_make_a_code_unusable() {
         let fewest = fewest_tracks(code);
         for tracks in 1..=8 {
             assert_eq!(
-                is_usable(u16::from(code), tracks, 8),
+                is_usable(Open, u16::from(code), tracks, 8),
                 tracks >= fewest,
                 "code {code}"
             );
@@ -94,9 +108,37 @@ fn more_tracks_never_make_a_code_unusable() {
 #[test]
 fn fewest_steps_may_exceed_the_limit() {
     // On one track each step gives one code more, so 511 breaks need 511 steps.
-    assert_eq!(fewest_steps(1, 511), 511);
-    assert_eq!(fewest_steps(8, 255), 8);
-    assert_eq!(fewest_steps(8, 256), 9);
-    assert_eq!(fewest_steps(2, 87), 8);
-    assert_eq!(fewest_steps(2, 88), 9);
+    assert_eq!(fewest_steps(Open, 1, 511), 511);
+    assert_eq!(fewest_steps(Open, 8, 255), 8);
+    assert_eq!(fewest_steps(Open, 8, 256), 9);
+    assert_eq!(fewest_steps(Open, 2, 87), 8);
+    assert_eq!(fewest_steps(Open, 2, 88), 9);
+    assert_eq!(fewest_steps(Closed, 1, 511), 512);
+    assert_eq!(fewest_steps(Closed, 8, 254), 8);
+    assert_eq!(fewest_steps(Closed, 8, 255), 9);
+    assert_eq!(fewest_steps(Closed, 2, 86), 8);
+    assert_eq!(fewest_steps(Closed, 2, 87), 9);
+}
+
+/// The least h whose usable codes outnumber the breaks, by trying all codes of eleven steps at most.
+fn counted_steps(counts: &[usize], most_breaks: usize) -> Option<usize> {
+    counts.iter().position(|&count| count > most_breaks)
+}
+
+#[test]
+fn fewest_steps_are_counted_steps_beyond_eight() {
+    for mark in MARKS {
+        for tracks in 1..=8 {
+            let counts: Vec<usize> = (0..=11)
+                .map(|steps| usable_codes(mark, tracks, steps).len())
+                .collect();
+            for most_breaks in 0..counts[11] {
+                let counted = counted_steps(&counts, most_breaks);
+                let recursive = recursive_steps(mark, tracks, most_breaks);
+                assert_eq!(Some(recursive), counted, "{most_breaks} on {tracks}");
+                let fewest = fewest_steps(mark, tracks, most_breaks);
+                assert_eq!(Some(fewest), counted, "{most_breaks} on {tracks}");
+            }
+        }
+    }
 }
