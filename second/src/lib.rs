@@ -20,7 +20,9 @@ pub mod yard;
 use answers::{Answer, CardAnswer, PriceAnswer, Timings};
 
 /// Whether the destination tracks are open from the first roll-in on, or closed until the first pull.
+/// It is as wide as the counts beside it, since a copy of a night that waits for one byte would be measured, too.
 #[derive(Clone, Copy, Debug, PartialEq, Eq, PartialOrd, Ord)]
+#[repr(usize)]
 pub enum Mark {
     Open,
     Closed,

@@ -338,7 +338,7 @@ pub fn wild_count(random: &mut Random, count: usize) -> usize {
     }
 }
 
-/// One fault in a night; some leave it sound, as a length moved from train to train or the other mark does.
+/// One fault in a night; some leave it sound, as a length moved from train to train or a mark picked anew.
 pub fn damage_night(random: &mut Random, night: &mut OwnNight) {
     match random.below(13) {
         0 => night.tracks = wild_count(random, night.tracks),

@@ -5,7 +5,7 @@ use second::steps::{
     usable_codes,
 };
 use second::yard::is_pulled_in;
-use second::Mark::{Closed, Open};
+use second::Mark::{self, Closed, Open};
 use second::MARKS;
 
 /// The paper's rows: tracks, then F(0) to F(8).
@@ -52,13 +52,11 @@ fn counting_and_recursion_agree_beyond_the_table() {
     for tracks in 1..=8 {
         // Every row reaches this after F(11), so all twelve are compared on every row.
         let by_recursion = recursive_counts(tracks, 10_000);
-        for (steps, &count) in by_recursion.iter().enumerate().take(12) {
-            assert_eq!(
-                usable_codes(Open, tracks, steps).len(),
-                count,
-                "F({steps}) on {tracks}"
-            );
-        }
+        assert_eq!(
+            by_recursion[..12],
+            counted_codes(Open, tracks),
+            "on {tracks}"
+        );
     }
 }
 
@@ -120,24 +118,23 @@ fn fewest_steps_may_exceed_the_limit() {
     assert_eq!(fewest_steps(Closed, 2, 87), 9);
 }
 
-/// The least h whose usable codes outnumber the breaks, by trying all codes of eleven steps at most.
-fn counted_steps(counts: &[usize], most_breaks: usize) -> Option<usize> {
-    counts.iter().position(|&count| count > most_breaks)
+/// The usable codes below 2^0, 2^1, .. 2^11, all of them tried on the yard.
+fn counted_codes(mark: Mark, tracks: usize) -> Vec<usize> {
+    let count = |steps| usable_codes(mark, tracks, steps).len();
+    (0..=11).map(count).collect()
 }
 
 #[test]
 fn fewest_steps_are_counted_steps_beyond_eight() {
     for mark in MARKS {
         for tracks in 1..=8 {
-            let counts: Vec<usize> = (0..=11)
-                .map(|steps| usable_codes(mark, tracks, steps).len())
-                .collect();
+            let counts = counted_codes(mark, tracks);
             for most_breaks in 0..counts[11] {
-                let counted = counted_steps(&counts, most_breaks);
-                let recursive = recursive_steps(mark, tracks, most_breaks);
-                assert_eq!(Some(recursive), counted, "{most_breaks} on {tracks}");
+                let counted = counts.iter().position(|&count| count > most_breaks);
                 let fewest = fewest_steps(mark, tracks, most_breaks);
-                assert_eq!(Some(fewest), counted, "{most_breaks} on {tracks}");
+                let recursive = recursive_steps(mark, tracks, most_breaks);
+                let found = (Some(fewest), Some(recursive));
+                assert_eq!(found, (counted, counted), "{most_breaks} on {tracks}");
             }
         }
     }
