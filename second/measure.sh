@@ -23,7 +23,7 @@ for bytes in 0 16 32 48; do
         # The functions of the idiomatic program begin at multiples of 16, 32 or 64 bytes.
         export CARGO_TARGET_DIR="$PWD/second/target/places/$bits" RUSTFLAGS="-C llvm-args=-align-all-functions=$bits"
         cargo build --release --quiet --features library --manifest-path second/Cargo.toml --bin measure
-        "$CARGO_TARGET_DIR/release/measure" | grep -E '^\| [a-z]+ \| [0-9]+ \|' | awk -F' *[|] *' '{print NR, $2, $3, $6, $7, $8}'
+        "$CARGO_TARGET_DIR/release/measure" | grep -E '^\| [a-z-]+ \| [0-9]+ \|' | awk -F' *[|] *' '{print NR, $2, $3, $6, $7, $8}'
     done
 done | sort -n -k1,1 -k6,6 | awk '
     BEGIN { print "| call | cars | library ns/car | idiomatic ns/car | library/idiomatic | least | most |\n|---|---|---|---|---|---|---|" }

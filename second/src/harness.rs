@@ -6,7 +6,7 @@ use crate::random::Random;
 use crate::reference::{self, CardBuffers};
 use crate::steps;
 use crate::tally::{Call, Detail, Tally};
-use crate::{Calls, Night, Plan};
+use crate::{Calls, Night, OpenPlan, Plan};
 use std::fmt::Debug;
 
 /// Items that stand before and behind each lent list and that no call may touch.
@@ -107,6 +107,7 @@ impl LentPlan {
             inbound: self.inbound.part(),
             tracks: night.tracks,
             room: night.room,
+            mark: night.mark,
         }
     }
 
@@ -147,7 +148,7 @@ pub fn compare_derive<C: Calls>(
         lists,
         card: Vec::new(),
     };
-    count(tally, Call::Derive, wanted.answer);
+    count(tally, Call::Derive(night.mark), wanted.answer);
     let answer = C::derive(lent.night(night), limit, codes.part_mut()).into();
     let mut lists = lent.items();
     lists.push(codes.whole);
@@ -171,7 +172,7 @@ pub fn compare_check<C: Calls>(
         lists: lent.items(),
         card: Vec::new(),
     };
-    count(tally, Call::Check, wanted.answer);
+    count(tally, Call::Check(plan.night.mark), wanted.answer);
     let got = Outcome {
         answer: C::check(lent.plan(plan)).into(),
         lists: lent.items(),
@@ -209,7 +210,7 @@ pub fn compare_replay<C: Calls>(
         lists,
         card: Vec::new(),
     };
-    count(tally, Call::Replay, wanted.answer);
+    count(tally, Call::Replay(plan.night.mark), wanted.answer);
     let answer = C::replay(lent.plan(plan), stage, on.part_mut(), at.part_mut()).into();
     let mut lists = lent.items();
     lists.extend([on.whole, at.whole]);
@@ -225,12 +226,13 @@ pub fn compare_replay<C: Calls>(
 pub fn compare_write<C: Calls>(
     random: &mut Random,
     tally: &mut Tally,
-    plan: Plan,
+    open: OpenPlan,
     card_len: usize,
 ) -> Result<(), String> {
+    let plan = open.plan();
     let lent = LentPlan::of(random, plan.night, plan.codes);
     let mut card = Lent::blank(card_len, || random.bits() as u8);
-    let outcome = reference::write(plan, card_len);
+    let outcome = reference::write(open, card_len);
     let written = outcome.as_ref().map_or(&[][..], |bytes| bytes);
     let wanted = Outcome {
         answer: reference::write_answer(&outcome),
@@ -239,7 +241,7 @@ pub fn compare_write<C: Calls>(
     };
     count(tally, Call::Write, wanted.answer);
     let got = Outcome {
-        answer: C::write(lent.plan(plan), card.part_mut()).into(),
+        answer: C::write(lent.plan(plan).opened(), card.part_mut()).into(),
         lists: lent.items(),
         card: card.whole,
     };

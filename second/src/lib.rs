@@ -19,6 +19,27 @@ pub mod yard;
 
 use answers::{Answer, CardAnswer, PriceAnswer, Timings};
 
+/// Whether the destination tracks are open from the first roll-in on, or closed until the first pull.
+/// It is as wide as the counts beside it, since a copy of a night that waits for one byte would be measured, too.
+#[derive(Clone, Copy, Debug, PartialEq, Eq, PartialOrd, Ord)]
+#[repr(usize)]
+pub enum Mark {
+    Open,
+    Closed,
+}
+
+pub const MARKS: [Mark; 2] = [Mark::Open, Mark::Closed];
+
+impl Mark {
+    /// The number by which the card reader tells it.
+    pub fn number(self) -> usize {
+        match self {
+            Mark::Open => 0,
+            Mark::Closed => 1,
+        }
+    }
+}
+
 /// A night as a caller gives it; nothing about it is tested yet.
 #[derive(Clone, Copy, Debug)]
 pub struct Night<'a> {
@@ -26,6 +47,7 @@ pub struct Night<'a> {
     pub inbound: &'a [u16],
     pub tracks: usize,
     pub room: usize,
+    pub mark: Mark,
 }
 
 /// A plan as a caller gives it; nothing about it is tested yet.
@@ -34,6 +56,27 @@ pub struct Plan<'a> {
     pub night: Night<'a>,
     pub steps: usize,
     pub codes: &'a [u16],
+}
+
+impl<'a> Plan<'a> {
+    /// The same lists and counts with the destinations open, whatever the mark was.
+    #[inline]
+    pub fn opened(self) -> OpenPlan<'a> {
+        let mark = Mark::Open;
+        let night = Night { mark, ..self.night };
+        OpenPlan(Plan { night, ..self })
+    }
+}
+
+/// A plan of an open night, which is all that a card holds so far; [`Plan::opened`] makes it.
+#[derive(Clone, Copy, Debug)]
+pub struct OpenPlan<'a>(Plan<'a>);
+
+impl<'a> OpenPlan<'a> {
+    #[inline]
+    pub fn plan(self) -> Plan<'a> {
+        self.0
+    }
 }
 
 /// The calls as the library offers them, so that one harness drives every implementation.
@@ -51,7 +94,7 @@ pub trait Calls {
         inbound: &mut [u16],
         codes: &mut [u16],
     ) -> Self::CardTold;
-    fn write(plan: Plan, card: &mut [u8]) -> Self::Told;
+    fn write(plan: OpenPlan, card: &mut [u8]) -> Self::Told;
     fn price(steps: usize, passes: usize, timings: Timings) -> PriceAnswer;
     fn fewest_tracks(code: u8) -> usize;
 }

@@ -1,7 +1,7 @@
 //! The library through its C interface, with its answers in the second program's own types.
 
 use crate::answers::{Answer, CardAnswer, PriceAnswer, Timings};
-use crate::{Calls, Night, Plan};
+use crate::{Calls, Mark, Night, OpenPlan, Plan};
 
 pub struct Library;
 
@@ -36,8 +36,9 @@ impl Calls for Library {
     }
 
     #[inline]
-    fn write(plan: Plan, card: &mut [u8]) -> altairpeg_sys::Answer {
-        altairpeg_sys::write(lent(plan), card)
+    fn write(plan: OpenPlan, card: &mut [u8]) -> altairpeg_sys::Answer {
+        let lent = lent(plan.plan()).open();
+        altairpeg_sys::write(lent.expect("an open plan is lent as one"), card)
     }
 
     fn price(steps: usize, passes: usize, timings: Timings) -> PriceAnswer {
@@ -57,12 +58,21 @@ impl Calls for Library {
 }
 
 #[inline]
+fn lent_mark(mark: Mark) -> altairpeg_sys::Mark {
+    match mark {
+        Mark::Open => altairpeg_sys::Mark::Open,
+        Mark::Closed => altairpeg_sys::Mark::Closed,
+    }
+}
+
+#[inline]
 fn lent_night(night: Night) -> altairpeg_sys::Night {
     altairpeg_sys::Night {
         lengths: night.lengths,
         inbound: night.inbound,
         tracks: night.tracks,
         room: night.room,
+        mark: lent_mark(night.mark),
     }
 }
 
@@ -93,6 +103,7 @@ impl From<altairpeg_sys::CardAnswer> for CardAnswer {
             number: told.answer.number,
             a: told.answer.a,
             b: told.answer.b,
+            mark: told.mark,
             steps: told.steps,
             tracks: told.tracks,
             room: told.room,

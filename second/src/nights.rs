@@ -6,7 +6,7 @@ use crate::random::Random;
 use crate::reference::{derive, write};
 use crate::steps::{breaks_before, kept_codes, two_to};
 use crate::yard::{place_of, Replay};
-use crate::{Night, Plan};
+use crate::{Mark, Night, Plan, MARKS};
 
 /// A night that owns its lists.
 #[derive(Clone, Debug)]
@@ -15,6 +15,7 @@ pub struct OwnNight {
     pub inbound: Vec<u16>,
     pub tracks: usize,
     pub room: usize,
+    pub mark: Mark,
 }
 
 /// A plan that owns its lists.
@@ -32,6 +33,7 @@ impl OwnNight {
             inbound: &self.inbound,
             tracks: self.tracks,
             room: self.room,
+            mark: self.mark,
         }
     }
 }
@@ -46,14 +48,15 @@ impl OwnPlan {
     }
 }
 
-/// A sound night of 1 to 512 cars; most are short, since faults show there as well.
+/// A sound night of 1 to 512 cars, open or closed; most are short, since faults show there as well.
 pub fn any_night(random: &mut Random) -> OwnNight {
+    let mark = random.pick(&MARKS);
     if random.chance(5) {
-        return heavy_night(random);
+        return heavy_night(random, mark);
     }
     let cars = any_count(random);
     let trains = any_trains(random, cars);
-    let mut night = night_of(random, cars, trains);
+    let mut night = night_of(random, mark, cars, trains);
     if random.chance(30) {
         night.room = random.within(1..=cars);
     }
@@ -62,10 +65,10 @@ pub fn any_night(random: &mut Random) -> OwnNight {
 
 /// One train in which most cars share a code with one set bit, so that the step of this
 /// bit pulls the most cars, however late it comes.
-fn heavy_night(random: &mut Random) -> OwnNight {
+fn heavy_night(random: &mut Random, mark: Mark) -> OwnNight {
     let step = random.below(8);
     let tracks = random.within(step + 1..=8);
-    let usable = kept_codes(tracks, 8);
+    let usable = kept_codes(mark, tracks, 8);
     let number = place_of(usable, two_to(step));
     let blocks = random.within(number + 1..=number + 10);
     let cars = random.within(2 * blocks..=512);
@@ -77,6 +80,7 @@ fn heavy_night(random: &mut Random) -> OwnNight {
         inbound: last_block_first(&sorted, &lengths),
         tracks,
         room: 512,
+        mark,
     }
 }
 
@@ -99,13 +103,14 @@ fn any_trains(random: &mut Random, cars: usize) -> usize {
     }
 }
 
-/// A sound night with these counts, any number of tracks and room for all cars.
-pub fn night_of(random: &mut Random, cars: usize, trains: usize) -> OwnNight {
+/// A sound night with this mark and these counts, any number of tracks and room for all cars.
+pub fn night_of(random: &mut Random, mark: Mark, cars: usize, trains: usize) -> OwnNight {
     OwnNight {
         lengths: any_lengths(random, cars, trains),
         inbound: any_inbound(random, cars),
         tracks: random.within(1..=8),
         room: 512,
+        mark,
     }
 }
 
@@ -196,7 +201,7 @@ pub fn any_plan(random: &mut Random, night: &OwnNight) -> OwnPlan {
     plan
 }
 
-/// The derived plan, or one of all zeros where no eight steps are enough.
+/// The derived plan, or one with the lowest code for all cars where no eight steps are enough.
 pub fn derived_plan(night: &OwnNight) -> OwnPlan {
     let ample = Night {
         room: 512,
@@ -205,7 +210,7 @@ pub fn derived_plan(night: &OwnNight) -> OwnPlan {
     let cars = night.inbound.len();
     let (steps, codes) = match derive(ample, 8, cars) {
         Ok(derived) => (derived.steps, derived.codes),
-        Err(_) => (8, vec![0; cars]),
+        Err(_) => (8, vec![lowest_code(night.mark); cars]),
     };
     OwnPlan {
         night: night.clone(),
@@ -214,10 +219,15 @@ pub fn derived_plan(night: &OwnNight) -> OwnPlan {
     }
 }
 
+/// The lowest code that no barred destination turns away.
+fn lowest_code(mark: Mark) -> u16 {
+    kept_codes(mark, 1, 1)[0]
+}
+
 /// A plan that builds the trains with other codes than the derived one, if enough are there.
 fn rising_plan(random: &mut Random, night: &OwnNight) -> OwnPlan {
     let mut plan = more_steps(random, derived_plan(night));
-    let usable = kept_codes(night.tracks, plan.steps);
+    let usable = kept_codes(night.mark, night.tracks, plan.steps);
     let breaks = breaks_before(night.lend());
     let most_breaks = breaks.iter().copied().max().unwrap_or(0);
     if most_breaks < usable.len() {
@@ -243,8 +253,18 @@ fn more_steps(random: &mut Random, mut plan: OwnPlan) -> OwnPlan {
 
 fn usable_plan(random: &mut Random, night: &OwnNight) -> OwnPlan {
     let steps = random.within(0..=8);
-    let usable = kept_codes(night.tracks, steps);
+    let usable = strewn_codes(random, night, steps);
     plan_with(night, steps, || random.pick(usable))
+}
+
+/// The usable codes of a night; now and then, and where there are none, code 0 is among them although
+/// the night is closed.
+fn strewn_codes(random: &mut Random, night: &OwnNight, steps: usize) -> &'static [u16] {
+    let mark = match steps == 0 || random.chance(25) {
+        true => Mark::Open,
+        false => night.mark,
+    };
+    kept_codes(mark, night.tracks, steps)
 }
 
 /// Usable codes, but for a few in which bits are turned over.
@@ -265,7 +285,7 @@ fn gapped_plan(random: &mut Random, night: &OwnNight) -> OwnPlan {
         tracks,
         ..night.clone()
     };
-    let usable = kept_codes(tracks, steps);
+    let usable = strewn_codes(random, &night, steps);
     let mut plan = plan_with(&night, steps, || random.pick(usable));
     let car = random.below(plan.codes.len());
     plan.codes[car] = late_gap(random, tracks, steps);
@@ -294,7 +314,8 @@ fn plan_with(night: &OwnNight, steps: usize, code: impl FnMut() -> u16) -> OwnPl
 
 /// A room within one car of what some step pulls, so that refusal 6 is just met or missed.
 pub fn tight_room(random: &mut Random, plan: &OwnPlan) -> usize {
-    let pulls = Replay::of(plan.lend()).pulls;
+    // With open destinations no code 0 ends the replay before its pulls.
+    let pulls = Replay::of(plan.lend().opened().plan()).pulls;
     if pulls.is_empty() {
         return random.within(1..=512);
     }
@@ -317,9 +338,9 @@ pub fn wild_count(random: &mut Random, count: usize) -> usize {
     }
 }
 
-/// One fault in a night; some leave it sound, as a length moved from train to train does.
+/// One fault in a night; some leave it sound, as a length moved from train to train or a mark picked anew.
 pub fn damage_night(random: &mut Random, night: &mut OwnNight) {
-    match random.below(12) {
+    match random.below(13) {
         0 => night.tracks = wild_count(random, night.tracks),
         1 => night.room = wild_count(random, night.room),
         2 => damage_item(random, &mut night.lengths),
@@ -331,19 +352,21 @@ pub fn damage_night(random: &mut Random, night: &mut OwnNight) {
         8 => zero_item(random, &mut night.inbound),
         9 => duplicate_item(random, &mut night.inbound),
         10 => damage_length(random, &mut night.inbound, 512),
+        11 => night.mark = random.pick(&MARKS),
         _ => put_beyond(random, &mut night.inbound),
     }
 }
 
 /// One fault in a plan's codes or steps.
 pub fn damage_codes(random: &mut Random, plan: &mut OwnPlan) {
-    match random.below(7) {
+    match random.below(8) {
         0 => damage_item(random, &mut plan.codes),
         1 => flip_bit(random, &mut plan.codes),
         2 => set_too_large(random, plan),
         3 => duplicate_item(random, &mut plan.codes),
         4 => damage_length(random, &mut plan.codes, 512),
         5 => plan.steps = random.below(9),
+        6 => zero_item(random, &mut plan.codes),
         _ => plan.steps = wild_count(random, plan.steps),
     }
 }
@@ -450,7 +473,7 @@ pub fn any_card(random: &mut Random, plan: &OwnPlan) -> Vec<u8> {
 
 /// The card as the reference writes it, or with wild lists where it refuses to.
 pub fn whole_card(plan: &OwnPlan) -> Vec<u8> {
-    match write(plan.lend(), 1237) {
+    match write(plan.lend().opened(), 1237) {
         Ok(card) => card,
         Err(_) => packed(plan, 1, plan.night.inbound.len(), plan.night.lengths.len()),
     }
@@ -593,7 +616,8 @@ fn random_double(random: &mut Random) -> f64 {
     }
 }
 
-/// Lengths and inbound lists of the paper's trial nights.
+/// Lengths and inbound lists of the paper's trial nights; of the longest reversed trains for which eight
+/// steps do, in closed nights and in open ones; and of the longest there is.
 pub fn trial_nights() -> Vec<(Vec<u16>, Vec<u16>)> {
     let mut nights = vec![
         (vec![6], vec![3, 6, 1, 5, 2, 4]),
@@ -602,7 +626,7 @@ pub fn trial_nights() -> Vec<(Vec<u16>, Vec<u16>)> {
         (vec![2], vec![2, 1]),
         (vec![2], vec![1, 1]),
     ];
-    for cars in [7, 8, 256, 257] {
+    for cars in [7, 8, 255, 256, 257, 512] {
         nights.push((vec![cars], (1..=cars).rev().collect()));
     }
     nights

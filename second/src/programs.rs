@@ -62,7 +62,7 @@ fn new_card(bytes: &[u8]) -> Result<Vec<u8>, Refusal> {
         steps: derived.steps,
         codes: &derived.codes,
     };
-    write(plan, LONGEST_CARD)
+    write(plan.opened(), LONGEST_CARD)
 }
 
 fn night_of(card: &Card) -> Night<'_> {
@@ -71,6 +71,7 @@ fn night_of(card: &Card) -> Night<'_> {
         inbound: &card.inbound,
         tracks: card.tracks,
         room: card.room,
+        mark: card.mark,
     }
 }
 

@@ -4,7 +4,7 @@ use crate::answers::{refuse, Answer, CardAnswer, PriceAnswer, Refusal, Timings};
 use crate::bits::{Packer, Unpacker};
 use crate::steps::{breaks_before, codes_for, fewest_steps, two_to};
 use crate::yard::{first_out_of_order, Replay, Yard};
-use crate::{Night, Plan};
+use crate::{Mark, Night, OpenPlan, Plan};
 
 /// What an accepted derive answers and writes.
 #[derive(Clone, Debug, PartialEq, Eq)]
@@ -32,6 +32,7 @@ pub struct Staged {
 /// What an accepted card holds.
 #[derive(Clone, Debug, PartialEq, Eq)]
 pub struct Card {
+    pub mark: Mark,
     pub steps: usize,
     pub tracks: usize,
     pub room: usize,
@@ -53,11 +54,11 @@ pub fn derive(night: Night, limit: usize, codes_len: usize) -> Result<Derived, R
     test_buffer(codes_len, night.inbound.len(), 3)?;
     let breaks = breaks_before(night);
     let most_breaks = breaks.iter().copied().max().unwrap_or(0);
-    let steps = fewest_steps(night.tracks, most_breaks);
+    let steps = fewest_steps(night.mark, night.tracks, most_breaks);
     if steps > limit {
         return Err(refuse(5, steps));
     }
-    let codes = codes_for(&breaks, night.tracks, steps);
+    let codes = codes_for(night.mark, &breaks, night.tracks, steps);
     let replay = Replay::of(Plan {
         night,
         steps,
@@ -76,6 +77,7 @@ pub fn check(plan: Plan) -> Result<Checked, Refusal> {
     test_codes_length(plan)?;
     test_codes(plan)?;
     let replay = Replay::of(plan);
+    test_turned_away(&replay)?;
     test_early(&replay)?;
     test_room(plan.night, &replay)?;
     let built = &replay.end().destinations;
@@ -109,6 +111,7 @@ pub fn replay(plan: Plan, stage: usize, on_len: usize, at_len: usize) -> Result<
     test_buffer(at_len, cars, 5)?;
     test_codes(plan)?;
     let replay = Replay::of(plan);
+    test_turned_away(&replay)?;
     test_early(&replay)?;
     test_room(night, &replay)?;
     Ok(stand(&replay.stages[stage], cars))
@@ -149,6 +152,8 @@ pub fn read(card: &[u8], buffers: CardBuffers) -> Result<Card, Refusal> {
         return Err(refuse(12, whole));
     }
     Ok(Card {
+        // Edition 1 means open.
+        mark: Mark::Open,
         steps,
         tracks,
         room,
@@ -158,7 +163,8 @@ pub fn read(card: &[u8], buffers: CardBuffers) -> Result<Card, Refusal> {
     })
 }
 
-pub fn write(plan: Plan, card_len: usize) -> Result<Vec<u8>, Refusal> {
+pub fn write(plan: OpenPlan, card_len: usize) -> Result<Vec<u8>, Refusal> {
+    let plan = plan.plan();
     test_night(plan.night, plan.steps)?;
     test_codes_length(plan)?;
     test_codes(plan)?;
@@ -273,6 +279,13 @@ fn test_codes(plan: Plan) -> Result<(), Refusal> {
         }
     }
     Ok(())
+}
+
+fn test_turned_away(replay: &Replay) -> Result<(), Refusal> {
+    match replay.turned_away {
+        Some(car) => Err(refuse(14, usize::from(car))),
+        None => Ok(()),
+    }
 }
 
 fn test_early(replay: &Replay) -> Result<(), Refusal> {
@@ -404,6 +417,7 @@ pub fn read_answer(outcome: &Result<Card, Refusal>) -> CardAnswer {
             number: 0,
             a: 0,
             b: 0,
+            mark: card.mark.number(),
             steps: card.steps,
             tracks: card.tracks,
             room: card.room,

@@ -1,33 +1,35 @@
 //! Usable codes, how many there are, breaks, and the fewest steps.
 
 use crate::yard::{place_of, Replay};
-use crate::{Night, Plan};
+use crate::{Mark, Night, Plan, MARKS};
 use std::sync::OnceLock;
 
 pub const MOST_TRACKS: usize = 8;
 pub const MOST_STEPS: usize = 8;
 
-/// Whether a lone car with this code, replayed on these tracks, is never pulled early.
-pub fn is_usable(code: u16, tracks: usize, steps: usize) -> bool {
+/// Whether a lone car with this code, replayed on these tracks in a night of this mark, is neither
+/// pulled early nor turned away by a barred destination.
+pub fn is_usable(mark: Mark, code: u16, tracks: usize, steps: usize) -> bool {
     let night = Night {
         lengths: &[1],
         inbound: &[1],
         tracks,
         room: 1,
+        mark,
     };
     let plan = Plan {
         night,
         steps,
         codes: &[code],
     };
-    Replay::of(plan).early.is_none()
+    Replay::of(plan).goes_on()
 }
 
 /// The usable codes below 2^h, counted upward, each tried by a replay of its own.
-pub fn usable_codes(tracks: usize, steps: usize) -> Vec<u16> {
+pub fn usable_codes(mark: Mark, tracks: usize, steps: usize) -> Vec<u16> {
     let mut codes = Vec::new();
     for code in 0..two_to(steps) {
-        if is_usable(code, tracks, steps) {
+        if is_usable(mark, code, tracks, steps) {
             codes.push(code);
         }
     }
@@ -43,22 +45,22 @@ pub fn two_to(steps: usize) -> u16 {
 }
 
 /// The usable codes for at most eight steps, all of them replayed once and kept.
-pub fn kept_codes(tracks: usize, steps: usize) -> &'static [u16] {
-    static KEPT: OnceLock<Vec<Vec<Vec<u16>>>> = OnceLock::new();
+pub fn kept_codes(mark: Mark, tracks: usize, steps: usize) -> &'static [u16] {
+    static KEPT: OnceLock<[Vec<Vec<Vec<u16>>>; 2]> = OnceLock::new();
     let kept = KEPT.get_or_init(|| {
-        let by_steps = |tracks| {
+        let by_steps = |mark, tracks| {
             (0..=MOST_STEPS)
-                .map(move |h| usable_codes(tracks, h))
+                .map(|steps| usable_codes(mark, tracks, steps))
                 .collect()
         };
-        (1..=MOST_TRACKS).map(by_steps).collect()
+        let by_tracks = |mark| {
+            (1..=MOST_TRACKS)
+                .map(|tracks| by_steps(mark, tracks))
+                .collect()
+        };
+        MARKS.map(by_tracks)
     });
-    &kept[tracks - 1][steps]
-}
-
-/// F(h) by counting the usable codes below 2^h; for at most eight steps.
-pub fn counted_codes(tracks: usize, steps: usize) -> usize {
-    kept_codes(tracks, steps).len()
+    &kept[mark.number()][tracks - 1][steps]
 }
 
 /// F(0), F(1), .. by the paper's recursion, up to the first that is at least `enough`.
@@ -79,19 +81,23 @@ pub fn recursive_counts(tracks: usize, enough: usize) -> Vec<usize> {
     counts
 }
 
-/// The least h with F(h) at least c+1; where F can be counted too, both ways must agree.
-pub fn fewest_steps(tracks: usize, most_breaks: usize) -> usize {
-    let counts = recursive_counts(tracks, most_breaks + 1);
-    for (steps, &count) in counts.iter().enumerate() {
-        if steps <= MOST_STEPS {
-            assert_eq!(
-                count,
-                counted_codes(tracks, steps),
-                "F({steps}) on {tracks}"
-            );
-        }
+/// The least h with a usable code for each number of breaks: found by counting those that the yard
+/// lets through, and beyond eight steps, where there are too many to try, by the recursion.
+pub fn fewest_steps(mark: Mark, tracks: usize, most_breaks: usize) -> usize {
+    let is_enough = |&steps: &usize| kept_codes(mark, tracks, steps).len() > most_breaks;
+    match (0..=MOST_STEPS).find(is_enough) {
+        Some(steps) => steps,
+        None => recursive_steps(mark, tracks, most_breaks),
     }
-    counts.len() - 1
+}
+
+/// The least h with F(h) at least c+1, of which a closed night leaves one, code 0, unused.
+pub fn recursive_steps(mark: Mark, tracks: usize, most_breaks: usize) -> usize {
+    let enough = match mark {
+        Mark::Open => most_breaks + 1,
+        Mark::Closed => most_breaks + 2,
+    };
+    recursive_counts(tracks, enough).len() - 1
 }
 
 /// For each car, in car order, the breaks before it in its train.
@@ -116,16 +122,16 @@ fn is_break(night: Night, car: u16) -> bool {
     place_of(night.inbound, car + 1) < place_of(night.inbound, car)
 }
 
-/// The usable code number q, counted upward from 0, for each car's number of breaks.
-pub fn codes_for(breaks: &[usize], tracks: usize, steps: usize) -> Vec<u16> {
-    let usable = kept_codes(tracks, steps);
+/// For each car's number of breaks q, the code with q others below it that the yard lets through.
+pub fn codes_for(mark: Mark, breaks: &[usize], tracks: usize, steps: usize) -> Vec<u16> {
+    let usable = kept_codes(mark, tracks, steps);
     breaks.iter().map(|&met| usable[met]).collect()
 }
 
 /// The fewest tracks on which a car with this code is never pulled early.
 pub fn fewest_tracks(code: u8) -> usize {
     for tracks in 1..MOST_TRACKS {
-        if is_usable(u16::from(code), tracks, MOST_STEPS) {
+        if is_usable(Mark::Open, u16::from(code), tracks, MOST_STEPS) {
             return tracks;
         }
     }

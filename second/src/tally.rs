@@ -1,13 +1,15 @@
 //! Which answers were reached how often, and which of the paper's table must be.
 
+use crate::{Mark, MARKS};
 use std::collections::BTreeMap;
 use std::fmt;
 
+/// A call, with the mark of the night where it takes one.
 #[derive(Clone, Copy, Debug, PartialEq, Eq, PartialOrd, Ord)]
 pub enum Call {
-    Derive,
-    Check,
-    Replay,
+    Derive(Mark),
+    Check(Mark),
+    Replay(Mark),
     Read,
     Write,
     Price,
@@ -39,7 +41,7 @@ impl Detail {
             3 => Detail::MetBefore,
             5 if a <= 8 => Detail::UpTo8,
             5 => Detail::Above8,
-            7 | 9 => Detail::Car,
+            7 | 9 | 14 => Detail::Car,
             8 => Detail::CarInStep(b),
             // The shortest whole card has eight bytes, so 1 and 5 are what they seem.
             10 if a != 1 && a != 5 => Detail::Length,
@@ -95,11 +97,11 @@ impl Tally {
 
     /// The table 'call, number, A, times'.
     pub fn table(&self) -> String {
-        let mut table = String::from("call          number  A                          times\n");
+        let mut table = String::from("call            number  A                          times\n");
         for ((call, number, detail), times) in &self.times {
             let call = format!("{call:?}");
             let detail = detail.to_string();
-            table += &format!("{call:<12}  {number:>6}  {detail:<20}  {times:>10}\n");
+            table += &format!("{call:<14}  {number:>6}  {detail:<20}  {times:>10}\n");
         }
         table
     }
@@ -107,27 +109,17 @@ impl Tally {
 
 /// Every number with every A that the paper lets a call answer.
 pub fn required() -> Vec<Reached> {
-    use Call::{Check, Derive, FewestTracks, Price, Read, Replay, Write};
+    use Call::{Check, FewestTracks, Price, Read, Replay, Write};
     let mut all = Vec::new();
-    for call in [Derive, Check, Replay, Read, Write] {
-        require(&mut all, call, 0, [Detail::Done]);
-        require(&mut all, call, 1, (1..=5).map(Detail::Exactly));
-        require(&mut all, call, 2, [Detail::Exactly(0), Detail::Train]);
-        require(&mut all, call, 3, [Detail::OutOfRange, Detail::MetBefore]);
-        require(&mut all, call, 4, [Detail::Exactly(3)]);
-    }
-    require(&mut all, Derive, 5, [Detail::UpTo8, Detail::Above8]);
-    for call in [Derive, Check, Replay] {
-        require(&mut all, call, 6, (0..8).map(Detail::Exactly));
+    for mark in MARKS {
+        require_marked(&mut all, mark);
     }
     for call in [Check, Replay] {
-        require(&mut all, call, 7, [Detail::Car]);
-        // An early pull comes before a later step, so never in the last one.
-        require(&mut all, call, 8, (0..7).map(Detail::CarInStep));
+        require(&mut all, call(Mark::Closed), 14, [Detail::Car]);
     }
-    require(&mut all, Check, 9, [Detail::Car]);
-    require(&mut all, Replay, 1, [Detail::Exactly(6)]);
-    require(&mut all, Replay, 4, [4, 5].map(Detail::Exactly));
+    for call in [Read, Write] {
+        require_sound(&mut all, call);
+    }
     require(&mut all, Read, 4, [1, 2].map(Detail::Exactly));
     require(&mut all, Read, 10, [1, 5].map(Detail::Exactly));
     require(&mut all, Read, 10, [Detail::Length]);
@@ -141,6 +133,33 @@ pub fn required() -> Vec<Reached> {
     require(&mut all, Price, 13, [1, 2].map(Detail::Exactly));
     require(&mut all, FewestTracks, 0, (1..=8).map(Detail::Exactly));
     all
+}
+
+/// What the calls that take a mark answer in open and closed nights alike.
+fn require_marked(all: &mut Vec<Reached>, mark: Mark) {
+    let [derive, check, replay] = [Call::Derive(mark), Call::Check(mark), Call::Replay(mark)];
+    for call in [derive, check, replay] {
+        require_sound(all, call);
+        require(all, call, 6, (0..8).map(Detail::Exactly));
+    }
+    require(all, derive, 5, [Detail::UpTo8, Detail::Above8]);
+    for call in [check, replay] {
+        require(all, call, 7, [Detail::Car]);
+        // An early pull comes before a later step, so never in the last one.
+        require(all, call, 8, (0..7).map(Detail::CarInStep));
+    }
+    require(all, check, 9, [Detail::Car]);
+    require(all, replay, 1, [Detail::Exactly(6)]);
+    require(all, replay, 4, [4, 5].map(Detail::Exactly));
+}
+
+/// What every call that takes or reads the lists of a night answers of them.
+fn require_sound(all: &mut Vec<Reached>, call: Call) {
+    require(all, call, 0, [Detail::Done]);
+    require(all, call, 1, (1..=5).map(Detail::Exactly));
+    require(all, call, 2, [Detail::Exactly(0), Detail::Train]);
+    require(all, call, 3, [Detail::OutOfRange, Detail::MetBefore]);
+    require(all, call, 4, [Detail::Exactly(3)]);
 }
 
 fn require(

@@ -12,7 +12,7 @@ use crate::nights::{
 use crate::random::Random;
 use crate::reference::{card_length, CardBuffers};
 use crate::tally::Tally;
-use crate::Calls;
+use crate::{Calls, Mark, MARKS};
 
 /// What all trials of a run share.
 pub struct Bench<'a> {
@@ -38,17 +38,23 @@ fn derive_trial<C: Calls>(bench: &mut Bench, night: &OwnNight) -> Result<(), Str
     if random.chance(35) {
         night.room = tight_room(random, &derived_plan(&night));
     }
-    let mut limit = if random.chance(70) {
-        8
-    } else {
-        random.below(9)
-    };
-    if random.chance(5) {
-        limit = wild_count(random, limit);
-    }
+    let limit = any_limit(random, &night);
     damage_some(random, &mut night);
     let codes_len = any_length(random, night.inbound.len());
     compare_derive::<C>(random, bench.tally, night.lend(), limit, codes_len)
+}
+
+/// Mostly eight steps, else any number of them, as many as the night needs, one fewer, or no number of steps.
+fn any_limit(random: &mut Random, night: &OwnNight) -> usize {
+    let limit = match random.below(20) {
+        0..=11 => 8,
+        12..=15 => random.below(9),
+        _ => derived_plan(night).steps.saturating_sub(random.below(2)),
+    };
+    if random.chance(5) {
+        return wild_count(random, limit);
+    }
+    limit
 }
 
 fn check_trial<C: Calls>(bench: &mut Bench, plan: &OwnPlan) -> Result<(), String> {
@@ -88,7 +94,7 @@ fn write_trial<C: Calls>(bench: &mut Bench, plan: &OwnPlan) -> Result<(), String
         plan.steps.min(8),
     );
     let card_len = any_length(random, whole);
-    compare_write::<C>(random, bench.tally, plan.lend(), card_len)
+    compare_write::<C>(random, bench.tally, plan.lend().opened(), card_len)
 }
 
 fn read_trial<C: Calls>(bench: &mut Bench, plan: &OwnPlan) -> Result<(), String> {
@@ -137,7 +143,7 @@ pub fn table_trial<C: Calls>(tally: &mut Tally) -> Result<(), String> {
     Ok(())
 }
 
-/// The paper's trial nights and its card, through every call with all limits and stages.
+/// The paper's trial nights, open and closed, and their cards, through every call with all limits and stages.
 pub fn paper_nights<C: Calls>(tally: &mut Tally) -> Result<(), String> {
     let mut random = Random::new(0, 1);
     let mut bench = Bench {
@@ -152,10 +158,23 @@ pub fn paper_nights<C: Calls>(tally: &mut Tally) -> Result<(), String> {
                     inbound: inbound.clone(),
                     tracks,
                     room,
+                    mark: Mark::Open,
                 };
-                whole_night::<C>(&mut bench, &night)?;
+                open_and_closed(&night, |night| whole_night::<C>(&mut bench, night))?;
             }
         }
+    }
+    Ok(())
+}
+
+/// A night with either mark through the same comparison.
+fn open_and_closed(
+    night: &OwnNight,
+    mut compare: impl FnMut(&OwnNight) -> Result<(), String>,
+) -> Result<(), String> {
+    for mark in MARKS {
+        let night = night.clone();
+        compare(&OwnNight { mark, ..night })?;
     }
     Ok(())
 }
@@ -167,13 +186,9 @@ fn whole_night<C: Calls>(bench: &mut Bench, night: &OwnNight) -> Result<(), Stri
         compare_derive::<C>(bench.random, bench.tally, night.lend(), limit, cars)?;
     }
     let plan = derived_plan(night);
-    compare_check::<C>(bench.random, bench.tally, plan.lend())?;
-    for stage in 0..=plan.steps + 1 {
-        let buffers = StageBuffers { on: cars, at: cars };
-        compare_replay::<C>(bench.random, bench.tally, plan.lend(), stage, buffers)?;
-    }
+    whole_plan::<C>(bench, &plan)?;
     let len = card_length(cars, night.lengths.len(), plan.steps);
-    compare_write::<C>(bench.random, bench.tally, plan.lend(), len)?;
+    compare_write::<C>(bench.random, bench.tally, plan.lend().opened(), len)?;
     let buffers = CardBuffers {
         lengths: night.lengths.len(),
         inbound: cars,
@@ -183,7 +198,18 @@ fn whole_night<C: Calls>(bench: &mut Bench, night: &OwnNight) -> Result<(), Stri
     compare_read::<C>(bench.random, bench.tally, &card, buffers)
 }
 
-/// Every small night with every code list of up to two steps, room for two, all stages.
+/// A plan through check, and through replay to all its stages and one beyond.
+fn whole_plan<C: Calls>(bench: &mut Bench, plan: &OwnPlan) -> Result<(), String> {
+    let cars = plan.night.inbound.len();
+    compare_check::<C>(bench.random, bench.tally, plan.lend())?;
+    for stage in 0..=plan.steps + 1 {
+        let buffers = StageBuffers { on: cars, at: cars };
+        compare_replay::<C>(bench.random, bench.tally, plan.lend(), stage, buffers)?;
+    }
+    Ok(())
+}
+
+/// Every small night, open and closed, with every code list of up to two steps, room for two, all stages.
 pub fn small_nights<C: Calls>(tally: &mut Tally, most_cars: u16) -> Result<(), String> {
     let mut random = Random::new(0, 0);
     let mut bench = Bench {
@@ -199,8 +225,9 @@ pub fn small_nights<C: Calls>(tally: &mut Tally, most_cars: u16) -> Result<(), S
                         inbound: inbound.clone(),
                         tracks,
                         room: 2,
+                        mark: Mark::Open,
                     };
-                    small_plans::<C>(&mut bench, &night)?;
+                    open_and_closed(&night, |night| small_plans::<C>(&mut bench, night))?;
                 }
             }
         }
@@ -208,18 +235,22 @@ pub fn small_nights<C: Calls>(tally: &mut Tally, most_cars: u16) -> Result<(), S
     Ok(())
 }
 
+/// Lengths of lists: short ones, those around a word of 64, and the longest.
+const LIST_LENGTHS: [u16; 12] = [1, 2, 7, 8, 9, 63, 64, 65, 127, 128, 511, 512];
+
 /// Lists with one number changed: each place of the short ones and some of the long ones, to every number up to
 /// twice the most cars and some far beyond, so that a number taken for another one is found. Without codes, check
 /// goes as far as the lists.
 pub fn changed_numbers<C: Calls>(tally: &mut Tally) -> Result<(), String> {
     let mut random = Random::new(0, 2);
-    for cars in [1, 2, 7, 8, 9, 63, 64, 65, 127, 128, 511, 512] {
+    for cars in LIST_LENGTHS {
         let mut plan = OwnPlan {
             night: OwnNight {
                 lengths: vec![cars],
                 inbound: shuffled(&mut random, (1..=cars).collect()),
                 tracks: 1,
                 room: 512,
+                mark: Mark::Open,
             },
             steps: 0,
             codes: vec![],
@@ -244,6 +275,56 @@ fn changed_places(cars: usize) -> Vec<usize> {
     }
 }
 
+/// Plans in which one car has code 0, at each place of the short ones and some of the long ones; every other
+/// car has code 1.
+pub fn zero_codes<C: Calls>(tally: &mut Tally) -> Result<(), String> {
+    let mut random = Random::new(0, 3);
+    let mut bench = Bench {
+        random: &mut random,
+        tally,
+    };
+    for cars in LIST_LENGTHS {
+        let night = OwnNight {
+            lengths: vec![cars],
+            inbound: (1..=cars).collect(),
+            tracks: 1,
+            room: 512,
+            mark: Mark::Open,
+        };
+        for place in changed_places(usize::from(cars)) {
+            let mut codes = vec![1; usize::from(cars)];
+            codes[place] = 0;
+            open_and_closed(&night, |night| other_faults::<C>(&mut bench, night, &codes))?;
+        }
+    }
+    Ok(())
+}
+
+/// These codes with another at either end: a second 0, none, one pulled early, one too large for two steps; with
+/// room for all cars and for one.
+fn other_faults<C: Calls>(
+    bench: &mut Bench,
+    night: &OwnNight,
+    codes: &[u16],
+) -> Result<(), String> {
+    let mut plan = OwnPlan {
+        night: night.clone(),
+        steps: 2,
+        codes: codes.to_vec(),
+    };
+    for room in [1, 512] {
+        plan.night.room = room;
+        for end in [0, codes.len() - 1] {
+            for code in [0, 1, 2, 4] {
+                plan.codes[end] = code;
+                whole_plan::<C>(bench, &plan)?;
+            }
+            plan.codes[end] = codes[end];
+        }
+    }
+    Ok(())
+}
+
 /// Derive, and all plans of up to two steps through check and replay.
 fn small_plans<C: Calls>(bench: &mut Bench, night: &OwnNight) -> Result<(), String> {
     let cars = night.inbound.len();
@@ -257,11 +338,7 @@ fn small_plans<C: Calls>(bench: &mut Bench, night: &OwnNight) -> Result<(), Stri
                 steps,
                 codes,
             };
-            compare_check::<C>(bench.random, bench.tally, plan.lend())?;
-            for stage in 0..=steps {
-                let buffers = StageBuffers { on: cars, at: cars };
-                compare_replay::<C>(bench.random, bench.tally, plan.lend(), stage, buffers)?;
-            }
+            whole_plan::<C>(bench, &plan)?;
         }
     }
     Ok(())

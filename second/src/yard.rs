@@ -1,6 +1,6 @@
 //! The yard as the paper describes it: real lists of cars, moved over the hump one by one.
 
-use crate::Plan;
+use crate::{Mark, Plan};
 
 /// Whether a car with this code is pulled in this step: its bit of value 2^step is set.
 pub fn is_pulled_in(code: u16, step: usize) -> bool {
@@ -29,6 +29,10 @@ pub struct Yard {
     pub tracks: Vec<Vec<u16>>,
     pub destinations: Vec<Vec<u16>>,
     pub passes: usize,
+    /// Whether the destinations serve other work: in a closed night, until the first pull.
+    barred: bool,
+    /// The cars that rolled to a destination while it was barred, and so stand nowhere.
+    turned_away: Vec<u16>,
 }
 
 impl Yard {
@@ -37,6 +41,8 @@ impl Yard {
             tracks: vec![Vec::new(); plan.night.tracks],
             destinations: vec![Vec::new(); plan.night.lengths.len()],
             passes: 0,
+            barred: plan.night.mark == Mark::Closed,
+            turned_away: Vec::new(),
         }
     }
 
@@ -47,12 +53,15 @@ impl Yard {
         let bound_for = (from..plan.steps).find(|&step| is_pulled_in(code, step));
         match bound_for {
             Some(step) => self.tracks[step % plan.night.tracks].push(car),
+            None if self.barred => self.turned_away.push(car),
             None => self.destinations[train_of(plan.night.lengths, car)].push(car),
         }
     }
 
-    /// Empties the track of a step; first in is first over the hump again.
+    /// Empties the track of a step; first in is first over the hump again. From the first pull on
+    /// no destination is barred.
     fn pull(&mut self, plan: Plan, step: usize) -> Vec<u16> {
+        self.barred = false;
         std::mem::take(&mut self.tracks[step % plan.night.tracks])
     }
 }
@@ -64,13 +73,15 @@ pub struct EarlyPull {
     pub step: usize,
 }
 
-/// What was seen while a plan was replayed; an early pull ends it.
+/// What was seen while a plan was replayed; a car turned away or pulled early ends it.
 #[derive(Clone, Debug)]
 pub struct Replay {
     /// Stage s stands at index s, as far as the replay came.
     pub stages: Vec<Yard>,
     /// The cars on the track of each step when the step came.
     pub pulls: Vec<usize>,
+    /// The lowest car that a barred destination turned away.
+    pub turned_away: Option<u16>,
     pub early: Option<EarlyPull>,
 }
 
@@ -82,17 +93,23 @@ impl Replay {
             yard.roll_in(plan, car, 0);
         }
         let mut replay = Replay {
+            turned_away: yard.turned_away.iter().copied().min(),
             stages: vec![yard],
             pulls: Vec::new(),
             early: None,
         };
         for step in 0..plan.steps {
-            replay.take_step(plan, step);
-            if replay.early.is_some() {
+            if !replay.goes_on() {
                 break;
             }
+            replay.take_step(plan, step);
         }
         replay
+    }
+
+    /// Whether no car has been turned away or pulled early so far.
+    pub fn goes_on(&self) -> bool {
+        self.turned_away.is_none() && self.early.is_none()
     }
 
     fn take_step(&mut self, plan: Plan, step: usize) {

@@ -1,9 +1,9 @@
 //! The night card: the paper's example, the reader's refusals in order, and the programs.
 
-use second::answers::{refuse, Refusal};
+use second::answers::{refuse, CardAnswer, Refusal};
 use second::programs::{nightcard, nightplan};
 use second::reference::{read, read_answer, write, Card, CardBuffers};
-use second::{Night, Plan};
+use second::{Mark, Night, Plan};
 
 const EXAMPLE: [u8; 16] = [
     0x12, 0x20, 0x0C, 0x06, 0x02, 0x03, 0x00, 0x60, 0x30, 0x02, 0x02, 0x80, 0x40, 0x20, 0x2D, 0x80,
@@ -21,6 +21,7 @@ fn buffers(lengths: usize, inbound: usize, codes: usize) -> CardBuffers {
 /// Case 1 with room for three cars, which is the example.
 fn case_one() -> Card {
     Card {
+        mark: Mark::Open,
         steps: 2,
         tracks: 2,
         room: 3,
@@ -36,13 +37,14 @@ fn written(card: &Card) -> Result<Vec<u8>, Refusal> {
         inbound: &card.inbound,
         tracks: card.tracks,
         room: card.room,
+        mark: card.mark,
     };
     let plan = Plan {
         night,
         steps: card.steps,
         codes: &card.codes,
     };
-    write(plan, 1237)
+    write(plan.opened(), 1237)
 }
 
 fn refused(card: &[u8]) -> Option<Refusal> {
@@ -63,21 +65,24 @@ fn the_example_is_written_and_read() {
     assert_eq!(written(&case_one()), Ok(EXAMPLE.to_vec()));
     let found = read(&EXAMPLE, buffers(1, 6, 6));
     assert_eq!(found, Ok(case_one()));
-    let answer = read_answer(&found);
-    let counts = (
-        answer.steps,
-        answer.tracks,
-        answer.room,
-        answer.cars,
-        answer.trains,
-    );
-    assert_eq!((answer.number, answer.a, answer.b), (0, 0, 0));
-    assert_eq!(counts, (2, 2, 3, 6, 1));
+    let answer = CardAnswer {
+        number: 0,
+        a: 0,
+        b: 0,
+        mark: 0,
+        steps: 2,
+        tracks: 2,
+        room: 3,
+        cars: 6,
+        trains: 1,
+    };
+    assert_eq!(read_answer(&found), answer);
 }
 
 #[test]
 fn the_longest_card_has_1237_bytes() {
     let card = Card {
+        mark: Mark::Open,
         steps: 8,
         tracks: 8,
         room: 512,
@@ -197,6 +202,7 @@ fn nightcard_prints_the_example() {
 #[test]
 fn nightcard_prints_a_line_for_each_train() {
     let card = Card {
+        mark: Mark::Open,
         steps: 0,
         tracks: 1,
         room: 512,

@@ -1,11 +1,11 @@
 //! The harness itself: it passes the idiomatic calls, and finds faults put into them.
 
-use second::answers::{Answer, CardAnswer, PriceAnswer, Timings};
+use second::answers::{refuse, Answer, CardAnswer, PriceAnswer, Timings};
 use second::idiomatic::Idiomatic;
 use second::random::Random;
 use second::tally::Tally;
-use second::trials::{small_nights, table_trial, trial, Bench};
-use second::{Calls, Night, Plan};
+use second::trials::{paper_nights, small_nights, table_trial, trial, zero_codes, Bench};
+use second::{Calls, Mark, Night, OpenPlan, Plan};
 
 const SEED: u64 = 7;
 const TRIALS: u64 = 4000;
@@ -29,6 +29,8 @@ fn idiomatic_calls_answer_as_the_reference_does() {
     let mut tally = Tally::default();
     assert_eq!(run::<Idiomatic>(&mut tally), Ok(()));
     assert_eq!(small_nights::<Idiomatic>(&mut tally, 3), Ok(()));
+    assert_eq!(paper_nights::<Idiomatic>(&mut tally), Ok(()));
+    assert_eq!(zero_codes::<Idiomatic>(&mut tally), Ok(()));
     assert!(tally.total() > 6 * TRIALS);
 }
 
@@ -48,6 +50,19 @@ const WRONG_ENTRY: usize = 12;
 const LENGTH_IN_16_BITS: usize = 13;
 const LATER_LISTING: usize = 14;
 const OUT_OF_RANGE_LISTED: usize = 15;
+const OPEN_PLAN_DERIVED: usize = 16;
+const STEPS_OF_OPEN: usize = 17;
+const ZERO_CODE_ACCEPTED: usize = 18;
+const ZERO_CODE_NEVER_ACCEPTED: usize = 19;
+const LAST_ZERO_CODE: usize = 20;
+const ZERO_CODE_FIRST_IN: usize = 21;
+const ZERO_BEFORE_TOO_LARGE: usize = 22;
+const EARLY_BEFORE_ZERO: usize = 23;
+const ROOM_BEFORE_ZERO: usize = 24;
+const ORDER_BEFORE_ZERO: usize = 25;
+const ZERO_CODE_REPLAYED: usize = 26;
+const CARD_TAKEN_FOR_CLOSED: usize = 27;
+const MARK_WHEN_REFUSED: usize = 28;
 
 /// The idiomatic calls with one fault.
 struct Faulty<const FAULT: usize>;
@@ -71,10 +86,17 @@ impl<const FAULT: usize> Calls for Faulty<FAULT> {
                 inbound: &night.inbound[..cars % 65536],
                 ..night
             },
+            OPEN_PLAN_DERIVED => Night {
+                mark: Mark::Open,
+                ..night
+            },
             _ => night,
         };
-        let answer = Idiomatic::derive(night, limit, codes);
+        let mut answer = Idiomatic::derive(night, limit, codes);
         match FAULT {
+            STEPS_OF_OPEN if answer.number == 5 => {
+                answer.a -= usize::from(night.mark == Mark::Closed);
+            }
             LAST_CODE_KEPT if answer.number == 0 => codes[cars - 1] = before[cars - 1],
             ONE_CODE_MORE if codes.len() > cars => codes[cars] = 0,
             _ => (),
@@ -83,7 +105,7 @@ impl<const FAULT: usize> Calls for Faulty<FAULT> {
     }
 
     fn check(plan: Plan) -> Answer {
-        let mut answer = Idiomatic::check(plan);
+        let mut answer = check_zero_codes::<FAULT>(plan);
         match (FAULT, answer.number) {
             (ONE_PASS_MORE, 0) => answer.a += 1,
             (ROOM_BEFORE_EARLY, 8) => {
@@ -120,6 +142,9 @@ impl<const FAULT: usize> Calls for Faulty<FAULT> {
                 }
             }
             (REFUSED_AND_WRITTEN, 6) => at[0] = at[0].wrapping_add(1),
+            (ZERO_CODE_REPLAYED, 14) => {
+                return Idiomatic::replay(plan.opened().plan(), stage, on, at);
+            }
             _ => (),
         }
         answer
@@ -137,12 +162,13 @@ impl<const FAULT: usize> Calls for Faulty<FAULT> {
                 answer = Idiomatic::read(&card[..answer.a], lengths, inbound, codes)
             }
             (COUNTS_WHEN_REFUSED, 12) => answer.steps = usize::from(card[0] % 16),
+            (CARD_TAKEN_FOR_CLOSED, 0) | (MARK_WHEN_REFUSED, 12) => answer.mark = 1,
             _ => (),
         }
         answer
     }
 
-    fn write(plan: Plan, card: &mut [u8]) -> Answer {
+    fn write(plan: OpenPlan, card: &mut [u8]) -> Answer {
         let answer = Idiomatic::write(plan, card);
         if FAULT == ONE_BYTE_MORE && answer.number == 0 && card.len() > answer.a {
             card[answer.a] = 0;
@@ -164,6 +190,39 @@ impl<const FAULT: usize> Calls for Faulty<FAULT> {
     }
 }
 
+/// The idiomatic check with a fault in what it says of zero codes in closed nights.
+fn check_zero_codes<const FAULT: usize>(plan: Plan) -> Answer {
+    let open = Idiomatic::check(plan.opened().plan());
+    let mut answer = Idiomatic::check(plan);
+    let is_zero = |&code: &u16| code == 0;
+    let first_zero = plan.codes.iter().position(is_zero);
+    match (FAULT, answer.number) {
+        (ZERO_CODE_ACCEPTED, 14) => answer = open,
+        (EARLY_BEFORE_ZERO, 14) if open.number == 8 => answer = open,
+        (ROOM_BEFORE_ZERO, 14) if open.number == 6 => answer = open,
+        (ORDER_BEFORE_ZERO, 14) if open.number == 9 => answer = open,
+        (ZERO_CODE_NEVER_ACCEPTED, 0) | (ZERO_BEFORE_TOO_LARGE, 7) => {
+            let refused = first_zero.map(|place| Answer::from(refuse(14, place + 1)));
+            answer = refused.unwrap_or(answer);
+        }
+        (LAST_ZERO_CODE, 14) => {
+            let last = plan.codes.iter().rposition(is_zero);
+            answer.a = last.map_or(0, |place| place + 1);
+        }
+        (ZERO_CODE_FIRST_IN, 14) => {
+            let is_zero = |&&car: &&u16| plan.codes[usize::from(car) - 1] == 0;
+            answer.a = plan
+                .night
+                .inbound
+                .iter()
+                .find(is_zero)
+                .map_or(0, |&car| car.into());
+        }
+        _ => (),
+    }
+    answer
+}
+
 fn is_found<const FAULT: usize>() {
     let found = run::<Faulty<FAULT>>(&mut Tally::default());
     assert!(found.is_err(), "fault {FAULT} is not found");
@@ -175,6 +234,8 @@ fn faults_of_derive_are_found() {
     is_found::<ONE_CODE_MORE>();
     is_found::<BREAKS_BETWEEN_TRAINS>();
     is_found::<LENGTH_IN_16_BITS>();
+    is_found::<OPEN_PLAN_DERIVED>();
+    is_found::<STEPS_OF_OPEN>();
 }
 
 #[test]
@@ -189,9 +250,24 @@ fn faults_of_check_and_replay_are_found() {
 }
 
 #[test]
+fn faults_of_zero_codes_are_found() {
+    is_found::<ZERO_CODE_ACCEPTED>();
+    is_found::<ZERO_CODE_NEVER_ACCEPTED>();
+    is_found::<LAST_ZERO_CODE>();
+    is_found::<ZERO_CODE_FIRST_IN>();
+    is_found::<ZERO_BEFORE_TOO_LARGE>();
+    is_found::<EARLY_BEFORE_ZERO>();
+    is_found::<ROOM_BEFORE_ZERO>();
+    is_found::<ORDER_BEFORE_ZERO>();
+    is_found::<ZERO_CODE_REPLAYED>();
+}
+
+#[test]
 fn faults_of_cards_prices_and_the_table_are_found() {
     is_found::<PADDING_NOT_READ>();
     is_found::<COUNTS_WHEN_REFUSED>();
+    is_found::<CARD_TAKEN_FOR_CLOSED>();
+    is_found::<MARK_WHEN_REFUSED>();
     is_found::<ONE_BYTE_MORE>();
     is_found::<NEGATIVE_ZERO>();
     is_found::<WRONG_ENTRY>();

@@ -2,7 +2,7 @@
 
 use second::answers::{Refusal, Timings};
 use second::reference::{check, derive, price, replay, write};
-use second::{Night, Plan};
+use second::{Mark, Night, Plan};
 
 /// A plan that owns its lists, so that one fault after the other can be mended.
 #[derive(Clone)]
@@ -13,10 +13,11 @@ struct Faulty {
     tracks: usize,
     room: usize,
     steps: usize,
+    mark: Mark,
 }
 
 impl Faulty {
-    /// Every count is out of its range.
+    /// Every count is out of its range; the night is closed.
     fn in_all_counts() -> Faulty {
         Faulty {
             lengths: vec![],
@@ -25,6 +26,7 @@ impl Faulty {
             tracks: 9,
             room: 0,
             steps: 9,
+            mark: Mark::Closed,
         }
     }
 
@@ -35,6 +37,7 @@ impl Faulty {
                 inbound: &self.inbound,
                 tracks: self.tracks,
                 room: self.room,
+                mark: self.mark,
             },
             steps: self.steps,
             codes: &self.codes,
@@ -75,22 +78,32 @@ fn expect(call: &str, found: Option<Refusal>, wanted: (usize, usize, usize)) {
 #[test]
 fn derive_tests_1_2_3_4_5_6() {
     let run = |it: &Faulty, codes_len| derive(it.plan().night, it.steps, codes_len).err();
-    let mut night = mend_the_night("derive", &|it| run(it, 0));
-    // Three cars reversed on one track need two steps; the limit is one, the room one car.
-    night.steps = 1;
-    expect("derive", run(&night, 3), (4, 3, 0));
-    expect("derive", run(&night, 4), (5, 2, 0));
-    night.steps = 2;
-    expect("derive", run(&night, 4), (6, 0, 2));
-    night.room = 2;
-    assert_eq!(run(&night, 4), None);
-    assert_eq!(run(&night, 400), None);
+    let mended = mend_the_night("derive", &|it| run(it, 0));
+    // Three cars reversed on one track need two steps, which pull two cars and one; closed they need
+    // three, and the first pulls all four cars.
+    for (mark, fewest, first_pull) in [(Mark::Open, 2, 2), (Mark::Closed, 3, 4)] {
+        let mut night = Faulty {
+            mark,
+            steps: fewest - 1,
+            ..mended.clone()
+        };
+        expect("derive", run(&night, 3), (4, 3, 0));
+        expect("derive", run(&night, 4), (5, fewest, 0));
+        night.steps = fewest;
+        night.room = first_pull - 1;
+        expect("derive", run(&night, 4), (6, 0, first_pull));
+        night.room = first_pull;
+        assert_eq!(run(&night, 4), None);
+        assert_eq!(run(&night, 400), None);
+    }
 }
 
-/// Mends what check and replay test alike: codes too large, early pulls, room.
+/// Mends what check and replay test alike: codes too large, zero codes, early pulls, room.
 fn mend_the_plan(call: &str, faulty: &mut Faulty, run: &dyn Fn(&Faulty) -> Option<Refusal>) {
     faulty.codes = vec![0, 2, 4, 9];
     expect(call, run(faulty), (7, 3, 0));
+    faulty.codes = vec![2, 0, 2, 0];
+    expect(call, run(faulty), (14, 2, 0));
     // Codes of 2 are pulled early in step 0 on one track; car 2 is the lowest of them.
     faulty.codes = vec![1, 2, 1, 2];
     expect(call, run(faulty), (8, 2, 0));
@@ -99,7 +112,12 @@ fn mend_the_plan(call: &str, faulty: &mut Faulty, run: &dyn Fn(&Faulty) -> Optio
     faulty.codes = vec![1, 1, 5, 1];
     expect(call, run(faulty), (8, 3, 1));
     faulty.codes = vec![1, 1, 0, 0];
+    expect(call, run(faulty), (14, 3, 0));
+    faulty.mark = Mark::Open;
     expect(call, run(faulty), (6, 0, 2));
+    faulty.mark = Mark::Closed;
+    faulty.codes = vec![1, 1, 1, 1];
+    expect(call, run(faulty), (6, 0, 4));
     // Room is met by each step alone: step 1 is the first with two cars.
     faulty.tracks = 3;
     faulty.codes = vec![2, 1, 2, 4];
@@ -108,7 +126,7 @@ fn mend_the_plan(call: &str, faulty: &mut Faulty, run: &dyn Fn(&Faulty) -> Optio
 }
 
 #[test]
-fn check_tests_1_2_3_4_7_8_6_9() {
+fn check_tests_1_2_3_4_7_14_8_6_9() {
     let run = |it: &Faulty| check(it.plan()).err();
     let mut plan = mend_the_night("check", &run);
     for codes in [vec![], vec![9; 3], vec![9; 5]] {
@@ -117,7 +135,11 @@ fn check_tests_1_2_3_4_7_8_6_9() {
     }
     mend_the_plan("check", &mut plan, &run);
     expect("check", run(&plan), (9, 2, 0));
-    plan.codes = vec![0, 1, 1, 0];
+    plan.codes = vec![1, 2, 4, 2];
+    assert_eq!(run(&plan), None);
+    plan.codes = vec![1, 2, 2, 0];
+    expect("check", run(&plan), (14, 4, 0));
+    plan.mark = Mark::Open;
     expect("check", run(&plan), (9, 3, 0));
     plan.codes = vec![0, 1, 2, 0];
     assert_eq!(run(&plan), None);
@@ -150,7 +172,7 @@ fn replay_tests_the_same_but_not_9() {
 
 #[test]
 fn write_tests_1_2_3_4_7_4() {
-    let run = |it: &Faulty, card_len| write(it.plan(), card_len).err();
+    let run = |it: &Faulty, card_len| write(it.plan().opened(), card_len).err();
     let mut plan = mend_the_night("write", &|it| run(it, 0));
     plan.codes = vec![4; 5];
     expect("write", run(&plan, 0), (4, 3, 0));
@@ -173,6 +195,7 @@ fn the_ends_of_every_range_are_accepted() {
             inbound: &inbound,
             tracks,
             room,
+            mark: Mark::Open,
         };
         assert!(derive(night, limit, 512).is_ok());
     }
@@ -182,6 +205,7 @@ fn the_ends_of_every_range_are_accepted() {
         inbound: &inbound,
         tracks: 8,
         room: 512,
+        mark: Mark::Open,
     };
     expect("derive", derive(night, 8, 512).err(), (1, 2, 0));
     let more: Vec<u16> = (1..=513).collect();
@@ -199,6 +223,7 @@ fn counts_just_out_of_range_are_refused() {
         inbound: &[1, 2],
         tracks: 1,
         room: 1,
+        mark: Mark::Open,
     };
     for tracks in [0, 9, 257, usize::MAX] {
         let night = Night { tracks, ..sound };
@@ -221,6 +246,7 @@ fn a_length_list_is_summed_beyond_16_bits() {
         inbound: &[1, 2, 3, 4],
         tracks: 1,
         room: 1,
+        mark: Mark::Open,
     };
     expect("derive", derive(night, 8, 4).err(), (2, 0, 0));
 }

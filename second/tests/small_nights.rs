@@ -1,16 +1,16 @@
-//! Every small night: all inbound orders of up to five cars in one to three trains.
+//! Every small night, open and closed: all inbound orders of up to five cars in one to three trains.
 
-use second::answers::Refusal;
+use second::answers::{refuse, Refusal};
 use second::nights::{code_lists, orders, train_lengths};
 use second::reference::{check, derive, Checked};
 use second::yard::{place_of, Replay};
-use second::{Night, Plan};
+use second::{Mark, Night, Plan, MARKS};
 use std::collections::BTreeSet;
 
 const MOST_CARS: u16 = 5;
 const MOST_TRACKS: usize = 3;
 
-fn each_night(cars: u16, mut visit: impl FnMut(Night)) {
+fn each_night(cars: u16, mark: Mark, mut visit: impl FnMut(Night)) {
     for inbound in orders(cars) {
         for lengths in train_lengths(cars) {
             for tracks in 1..=MOST_TRACKS {
@@ -19,6 +19,7 @@ fn each_night(cars: u16, mut visit: impl FnMut(Night)) {
                     inbound: &inbound,
                     tracks,
                     room: 512,
+                    mark,
                 });
             }
         }
@@ -47,38 +48,57 @@ fn trains_are_built(plan: Plan) -> bool {
     replay.early.is_none() && replay.end().destinations == wanted
 }
 
-#[test]
-fn derived_plans_build_the_trains_in_the_fewest_steps() {
+fn plans_build_the_trains_in_the_fewest_steps(mark: Mark) {
     let mut nights = 0;
     for cars in 1..=MOST_CARS {
-        each_night(cars, |night| {
+        each_night(cars, mark, |night| {
             nights += 1;
-            let derived = match derive(night, 8, usize::from(cars)) {
-                Ok(derived) => derived,
-                Err(refusal) => panic!("{night:?} is refused: {refusal:?}"),
-            };
-            let (steps, codes) = (derived.steps, &derived.codes);
-            assert!(
-                trains_are_built(Plan {
-                    night,
-                    steps,
-                    codes
-                }),
-                "{night:?} with {codes:?}"
-            );
+            let steps = derived_steps(night);
             for fewer in 0..steps {
-                for codes in code_lists(usize::from(cars), fewer) {
-                    let plan = Plan {
-                        night,
-                        steps: fewer,
-                        codes: &codes,
-                    };
-                    assert!(!trains_are_built(plan), "{plan:?} needs fewer than {steps}");
-                }
+                nothing_builds_the_trains(night, fewer);
             }
         });
     }
     assert_eq!(nights, 3 * (1 + 2 * 2 + 6 * 4 + 24 * 7 + 120 * 11));
+}
+
+/// The steps of the derived plan, which must build the trains and be accepted.
+fn derived_steps(night: Night) -> usize {
+    let derived = match derive(night, 8, night.inbound.len()) {
+        Ok(derived) => derived,
+        Err(refusal) => panic!("{night:?} is refused: {refusal:?}"),
+    };
+    let plan = Plan {
+        night,
+        steps: derived.steps,
+        codes: &derived.codes,
+    };
+    assert!(trains_are_built(plan), "{plan:?}");
+    let passes = check(plan).map(|checked| checked.passes);
+    assert_eq!(passes, Ok(derived.passes), "{plan:?}");
+    derived.steps
+}
+
+/// Whatever the codes, no plan of these steps builds the trains.
+fn nothing_builds_the_trains(night: Night, steps: usize) {
+    for codes in code_lists(night.inbound.len(), steps) {
+        let plan = Plan {
+            night,
+            steps,
+            codes: &codes,
+        };
+        assert!(!trains_are_built(plan), "{plan:?} needs fewer than derived");
+    }
+}
+
+#[test]
+fn derived_plans_build_the_trains_in_the_fewest_steps() {
+    plans_build_the_trains_in_the_fewest_steps(Mark::Open);
+}
+
+#[test]
+fn derived_plans_of_closed_nights_build_the_trains_in_the_fewest_steps() {
+    plans_build_the_trains_in_the_fewest_steps(Mark::Closed);
 }
 
 /// The lowest j+1 whose pair breaks the paper's rule on codes.
@@ -129,34 +149,55 @@ fn passes_without_early_pull(plan: Plan) -> Option<usize> {
     Some(plan.codes.len() + set_bits as usize)
 }
 
-#[test]
-fn built_trains_follow_the_rule_on_pairs() {
-    for cars in 1..=4 {
-        each_night(cars, |night| {
-            for steps in 0..=2 {
+/// All code lists of up to two steps for up to four cars, and of three steps for up to three.
+fn each_open_plan(visit: impl Fn(Plan)) {
+    for (most_cars, steps) in [(4, 0), (4, 1), (4, 2), (3, 3)] {
+        for cars in 1..=most_cars {
+            each_night(cars, Mark::Open, |night| {
                 for codes in code_lists(usize::from(cars), steps) {
-                    agrees_with_the_rules(Plan {
+                    visit(Plan {
                         night,
                         steps,
                         codes: &codes,
                     });
                 }
-            }
-        });
+            });
+        }
     }
 }
 
 #[test]
-fn built_trains_follow_the_rule_on_pairs_with_three_steps() {
-    for cars in 1..=3 {
-        each_night(cars, |night| {
-            for codes in code_lists(usize::from(cars), 3) {
-                agrees_with_the_rules(Plan {
-                    night,
-                    steps: 3,
-                    codes: &codes,
-                });
-            }
-        });
+fn built_trains_follow_the_rule_on_pairs() {
+    each_open_plan(agrees_with_the_rules);
+}
+
+/// What check says of a plan with room for these cars, in an open night and in a closed one.
+fn checked_with(plan: Plan, room: usize) -> [Result<Checked, Refusal>; 2] {
+    MARKS.map(|mark| {
+        let night = Night {
+            room,
+            mark,
+            ..plan.night
+        };
+        check(Plan { night, ..plan })
+    })
+}
+
+/// A closed night refuses the first zero code before all else, and of any other plan check says what it
+/// says of it in an open night.
+fn closed_differs_by_zero_codes_alone(plan: Plan) {
+    let zero = plan.codes.iter().position(|&code| code == 0);
+    for room in [1, 512] {
+        let [open, closed] = checked_with(plan, room);
+        let wanted = match zero {
+            Some(place) => Err(refuse(14, place + 1)),
+            None => open,
+        };
+        assert_eq!(closed, wanted, "{plan:?}");
     }
+}
+
+#[test]
+fn a_closed_night_refuses_zero_codes_and_else_as_an_open_one() {
+    each_open_plan(closed_differs_by_zero_codes_alone);
 }

@@ -1,9 +1,12 @@
 //! The tables of the paper, and its statements on codes, tried over all of them.
 
 use second::steps::{
-    counted_codes, fewest_steps, fewest_tracks, is_usable, recursive_counts, usable_codes,
+    fewest_steps, fewest_tracks, is_usable, kept_codes, recursive_counts, recursive_steps,
+    usable_codes,
 };
 use second::yard::is_pulled_in;
+use second::Mark::{self, Closed, Open};
+use second::MARKS;
 
 /// The paper's rows: tracks, then F(0) to F(8).
 const ROWS: [(usize, [usize; 9]); 4] = [
@@ -18,10 +21,21 @@ fn counted_codes_give_the_table() {
     for (tracks, row) in ROWS {
         for (steps, wanted) in row.into_iter().enumerate() {
             assert_eq!(
-                counted_codes(tracks, steps),
+                kept_codes(Open, tracks, steps).len(),
                 wanted,
                 "F({steps}) on {tracks}"
             );
+        }
+    }
+}
+
+#[test]
+fn a_closed_night_has_the_same_codes_but_0() {
+    for tracks in 1..=8 {
+        for steps in 0..=8 {
+            let (open, closed) = MARKS.map(|mark| kept_codes(mark, tracks, steps)).into();
+            assert_eq!(open[0], 0, "{steps} steps on {tracks}");
+            assert_eq!(open[1..], *closed, "{steps} steps on {tracks}");
         }
     }
 }
@@ -38,13 +52,11 @@ fn counting_and_recursion_agree_beyond_the_table() {
     for tracks in 1..=8 {
         // Every row reaches this after F(11), so all twelve are compared on every row.
         let by_recursion = recursive_counts(tracks, 10_000);
-        for (steps, &count) in by_recursion.iter().enumerate().take(12) {
-            assert_eq!(
-                usable_codes(tracks, steps).len(),
-                count,
-                "F({steps}) on {tracks}"
-            );
-        }
+        assert_eq!(
+            by_recursion[..12],
+            counted_codes(Open, tracks),
+            "on {tracks}"
+        );
     }
 }
 
@@ -67,7 +79,7 @@ fn keeps_the_gap_rule(code: u16, tracks: usize) -> bool {
 fn no_early_pull_exactly_where_the_gap_rule_holds() {
     for tracks in 1..=8 {
         for code in 0..256 {
-            let usable = is_usable(code, tracks, 8);
+            let usable = is_usable(Open, code, tracks, 8);
             assert_eq!(
                 usable,
                 keeps_the_gap_rule(code, tracks),
@@ -83,7 +95,7 @@ fn more_tracks_never_make_a_code_unusable() {
         let fewest = fewest_tracks(code);
         for tracks in 1..=8 {
             assert_eq!(
-                is_usable(u16::from(code), tracks, 8),
+                is_usable(Open, u16::from(code), tracks, 8),
                 tracks >= fewest,
                 "code {code}"
             );
@@ -94,9 +106,36 @@ fn more_tracks_never_make_a_code_unusable() {
 #[test]
 fn fewest_steps_may_exceed_the_limit() {
     // On one track each step gives one code more, so 511 breaks need 511 steps.
-    assert_eq!(fewest_steps(1, 511), 511);
-    assert_eq!(fewest_steps(8, 255), 8);
-    assert_eq!(fewest_steps(8, 256), 9);
-    assert_eq!(fewest_steps(2, 87), 8);
-    assert_eq!(fewest_steps(2, 88), 9);
+    assert_eq!(fewest_steps(Open, 1, 511), 511);
+    assert_eq!(fewest_steps(Open, 8, 255), 8);
+    assert_eq!(fewest_steps(Open, 8, 256), 9);
+    assert_eq!(fewest_steps(Open, 2, 87), 8);
+    assert_eq!(fewest_steps(Open, 2, 88), 9);
+    assert_eq!(fewest_steps(Closed, 1, 511), 512);
+    assert_eq!(fewest_steps(Closed, 8, 254), 8);
+    assert_eq!(fewest_steps(Closed, 8, 255), 9);
+    assert_eq!(fewest_steps(Closed, 2, 86), 8);
+    assert_eq!(fewest_steps(Closed, 2, 87), 9);
+}
+
+/// The usable codes below 2^0, 2^1, .. 2^11, all of them tried on the yard.
+fn counted_codes(mark: Mark, tracks: usize) -> Vec<usize> {
+    let count = |steps| usable_codes(mark, tracks, steps).len();
+    (0..=11).map(count).collect()
+}
+
+#[test]
+fn fewest_steps_are_counted_steps_beyond_eight() {
+    for mark in MARKS {
+        for tracks in 1..=8 {
+            let counts = counted_codes(mark, tracks);
+            for most_breaks in 0..counts[11] {
+                let counted = counts.iter().position(|&count| count > most_breaks);
+                let fewest = fewest_steps(mark, tracks, most_breaks);
+                let recursive = recursive_steps(mark, tracks, most_breaks);
+                let found = (Some(fewest), Some(recursive));
+                assert_eq!(found, (counted, counted), "{most_breaks} on {tracks}");
+            }
+        }
+    }
 }

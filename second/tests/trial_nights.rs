@@ -1,9 +1,9 @@
-//! The fourteen trial nights of the paper, with every number it gives.
+//! The fourteen trial nights of the paper, with every number it gives, and nights like them that are closed.
 
 use second::answers::Refusal;
 use second::reference::{check, derive, replay, Checked, Derived, Staged};
 use second::yard::Replay;
-use second::{Night, Plan};
+use second::{Mark, Night, Plan};
 
 const N: [u16; 6] = [3, 6, 1, 5, 2, 4];
 
@@ -13,7 +13,13 @@ fn night<'a>(lengths: &'a [u16], inbound: &'a [u16], tracks: usize, room: usize)
         inbound,
         tracks,
         room,
+        mark: Mark::Open,
     }
+}
+
+fn closed(night: Night) -> Night {
+    let mark = Mark::Closed;
+    Night { mark, ..night }
 }
 
 fn night_n(tracks: usize, room: usize) -> Night<'static> {
@@ -184,4 +190,98 @@ fn case_14_needs_nine_steps() {
     let inbound = reversed(256);
     let found = derived(night(&[256], &inbound, 8, 512));
     assert_eq!(found.map(|found| found.steps), Ok(8));
+}
+
+#[test]
+fn night_n_closed_has_three_steps() {
+    let codes = [1, 1, 2, 2, 3, 5];
+    let night = closed(night_n(2, 512));
+    assert_eq!(derived(night), accepted(3, 14, &codes));
+    assert_eq!(derive(night, 3, 6), accepted(3, 14, &codes));
+    assert_eq!(derive(night, 2, 6), Err(refusal(5, 3, 0)));
+    let plan = Plan {
+        night,
+        steps: 3,
+        codes: &codes,
+    };
+    assert_eq!(Replay::of(plan).end().destinations, [[1, 2, 3, 4, 5, 6]]);
+    let checked = Checked {
+        passes: 14,
+        fullest: 4,
+    };
+    assert_eq!(check(plan), Ok(checked));
+    // Before the first pull the six cars stand on the two sorting tracks.
+    let staged = Staged {
+        passes: 6,
+        on: vec![0, 0, 1, 1, 0, 0],
+        at: vec![1, 3, 0, 1, 2, 0],
+    };
+    assert_eq!(replay(plan, 0, 6, 6), Ok(staged));
+}
+
+#[test]
+fn one_car_closed_takes_a_step() {
+    let night = closed(night(&[1], &[1], 2, 512));
+    assert_eq!(derived(night), accepted(1, 2, &[1]));
+    assert_eq!(derive(night, 1, 1), accepted(1, 2, &[1]));
+    assert_eq!(derive(night, 0, 1), Err(refusal(5, 1, 0)));
+}
+
+#[test]
+fn reversed_trains_closed_take_a_step_more_at_the_edge() {
+    let inbound = reversed(256);
+    let found = derived(closed(night(&[256], &inbound, 8, 512)));
+    assert_eq!(found, Err(refusal(5, 9, 0)));
+    let inbound = reversed(255);
+    let found = derived(closed(night(&[255], &inbound, 8, 512)));
+    assert_eq!(found.map(|found| found.steps), Ok(8));
+    let inbound = reversed(512);
+    let open = night(&[512], &inbound, 1, 512);
+    assert_eq!(derived(open), Err(refusal(5, 511, 0)));
+    assert_eq!(derived(closed(open)), Err(refusal(5, 512, 0)));
+}
+
+/// What check and replay say of N on two tracks in three steps with these codes, open and closed.
+fn both_say(codes: &[u16], open: Option<Refusal>, closed_too: Refusal) {
+    let with = |night| Plan {
+        night,
+        steps: 3,
+        codes,
+    };
+    let (in_open, in_closed) = (with(night_n(2, 512)), with(closed(night_n(2, 512))));
+    assert_eq!(check(in_open).err(), open);
+    assert_eq!(check(in_closed), Err(closed_too));
+    for stage in 0..=3 {
+        assert_eq!(replay(in_open, stage, 6, 6).err(), open);
+        assert_eq!(replay(in_closed, stage, 6, 6), Err(closed_too));
+    }
+}
+
+#[test]
+fn a_zero_code_is_refused_in_a_closed_night_alone() {
+    both_say(&[0, 0, 1, 1, 2, 3], None, refusal(14, 1, 0));
+}
+
+#[test]
+fn the_first_zero_code_in_car_order_is_told() {
+    // Trains of one car are never out of order; of the cars 2, 3 and 6 with code 0, car 3 comes in first.
+    let plan = Plan {
+        night: closed(night(&[1; 6], &N, 2, 512)),
+        steps: 1,
+        codes: &[1, 0, 0, 1, 1, 0],
+    };
+    assert_eq!(check(plan), Err(refusal(14, 2, 0)));
+    assert!(check(plan.opened().plan()).is_ok());
+}
+
+#[test]
+fn a_code_too_large_comes_before_a_zero_code() {
+    let too_large = refusal(7, 5, 0);
+    both_say(&[0, 0, 1, 1, 8, 8], Some(too_large), too_large);
+}
+
+#[test]
+fn a_zero_code_comes_before_an_early_pull() {
+    let early = refusal(8, 1, 0);
+    both_say(&[4, 4, 1, 1, 0, 5], Some(early), refusal(14, 5, 0));
 }

@@ -8,7 +8,9 @@ use second::idiomatic::Idiomatic;
 use second::library::Library;
 use second::random::Random;
 use second::tally::Tally;
-use second::trials::{changed_numbers, paper_nights, small_nights, table_trial, trial, Bench};
+use second::trials::{
+    changed_numbers, paper_nights, small_nights, table_trial, trial, zero_codes, Bench,
+};
 use second::Calls;
 use std::env;
 use std::process::ExitCode;
@@ -79,7 +81,8 @@ fn compare<C: Calls>(run: Run, tally: &mut Tally) -> Result<(), String> {
     paper_nights::<C>(tally)?;
     small_nights::<C>(tally, SMALL_CARS)?;
     changed_numbers::<C>(tally)?;
-    report_progress::<C>("small nights and changed numbers", tally, began);
+    zero_codes::<C>(tally)?;
+    report_progress::<C>("small nights, changed numbers and zero codes", tally, began);
     let every = (run.count / 10).max(1);
     for number in 0..run.count {
         one_trial::<C>(run.seed, run.first.unwrap_or(0) + number, tally)?;

@@ -5,6 +5,7 @@ use second::nights::OwnNight;
 use second::nights::{any_card, any_night, any_plan, derived_plan, trial_nights, whole_card};
 use second::programs::{nightcard, nightplan};
 use second::random::Random;
+use second::Mark;
 use std::env;
 use std::io::{self, Write};
 use std::process::{Command, ExitCode, Stdio};
@@ -54,6 +55,7 @@ fn cards(seed: u64, count: u64) -> Vec<Vec<u8>> {
                 inbound: inbound.clone(),
                 tracks: 2,
                 room,
+                mark: Mark::Open,
             };
             cards.push(whole_card(&derived_plan(&night)));
         }
