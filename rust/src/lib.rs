@@ -171,7 +171,8 @@ pub fn derive(night: Night, limit: usize) -> Result<Derived, Refusal> {
     })
 }
 
-/// Checks a plan offered by anyone, by its replay; refuses 1, 2, 3, 4, 7, in a closed night 14, 8, 6 or 9.
+/// Checks a plan offered by anyone, by its replay; refuses 1, 2, 3, 4, 7, 14 (only in a closed
+/// night), 8, 6 or 9.
 pub fn check(plan: Plan) -> Result<Checked, Refusal> {
     let answer = done(altairpeg_sys::check(plan))?;
     Ok(Checked {
