@@ -1,18 +1,20 @@
 /* Altairpeg: multistage sorting plans derived, checked, replayed, priced and stored on night cards.
  *
- * Link with libaltairpeg.a, which `rt staticlib altairpeg` writes to target/staticlib/, or with what `make install` puts in
- * place, archive or shared object.
+ * Link with libaltairpeg.a, which `rt staticlib altairpeg` writes to target/staticlib/, or with what `make install`
+ * puts in place, archive or shared object.
  *
- * A night: the lengths of the outbound trains, the inbound order of the cars, its mark, the sorting tracks and the room on
- * each. Its mark says whether the destination tracks are open from the first roll-in on, or closed: then they serve other
- * work until the first pull, and no car may roll to one before it. A closed night is the usual one; a caller says which.
+ * A night: the lengths of the outbound trains, the inbound order of the cars, its mark, the sorting tracks and the room
+ * on each. The mark says whether the destination tracks are open from the first roll-in on, or closed: then they serve
+ * other work until the first pull, and no car rolls to one before it. Closed is usual, but the caller says which it is.
  * A plan: a night, its steps h, and one code for each car, in car order, a number below 2^h: bit k set means that the
- * car is pulled in step k. Cars, trains and places in a list count from 1, tracks, steps and places on a track from 0.
+ * car is pulled in step k. A car with code 0 rolls to its destination track at once, so in a closed night no car has
+ * it. Cars, trains and places in a list count from 1, tracks, steps and places on a track from 0.
  *
- * Every call takes any input: nothing is asked of the caller but that each pointer, unless its length is 0, points to as
- * many items as the length behind it says, and that a buffer to be written overlaps no other list of the same call. No
- * call allocates, keeps a pointer or holds state, so calls may run at the same time. A refused call writes nothing. An
- * accepted one writes the items that its comment names, at the front of each buffer, and leaves all others as they were.
+ * Every call takes any input: nothing is asked of the caller but that each pointer, unless its length is 0, points to
+ * as many items as the length behind it says, and that a buffer to be written overlaps no other list of the same call.
+ * No call allocates, keeps a pointer or holds state, so calls may run at the same time. A refused call writes nothing.
+ * An accepted one writes the items that its comment names, at the front of each buffer, and leaves all others as they
+ * were.
  *
  * What a call answers: a number, 0 where all is done, and two details A and B, 0 where unused.
  *
@@ -80,8 +82,8 @@ enum altairpeg_number {
 };
 /* [end of numbers] */
 
-/* The mark of a night. A call takes any other number for closed: a plan that does with the tracks closed does with them
- * open, too. */
+/* The mark of a night. Every number but 0 counts as closed, which is the safe side: a plan that is accepted with the
+ * destination tracks closed is accepted with them open, too. */
 enum altairpeg_mark {
     ALTAIRPEG_OPEN = 0,
     ALTAIRPEG_CLOSED = 1
@@ -94,7 +96,8 @@ typedef struct altairpeg_answer {
     size_t b;
 } altairpeg_answer;
 
-/* What the card reader tells: a number and its details, then the card's mark, h, W, C, n and m, all 0 where it refuses. */
+/* What the card reader tells: a number and its details, then the card's mark, steps, tracks, room, cars and trains, all
+ * 0 where it refuses. */
 typedef struct altairpeg_card_answer {
     size_t number;
     size_t a;
@@ -121,20 +124,20 @@ typedef struct altairpeg_price_answer {
     double price;
 } altairpeg_price_answer;
 
-/* The counts of a call that no list sets, by name: the sorting tracks, the room on each, and the steps of a plan or, for
- * derive, the step limit. In C: (altairpeg_counts){.tracks = 2, .room = 3, .steps = 8}. */
+/* The counts of a call that no list sets, by name: the sorting tracks, the room on each, and the steps of a plan or,
+ * for derive, the step limit. In C: (altairpeg_counts){.tracks = 2, .room = 4, .steps = 8}. */
 typedef struct altairpeg_counts {
     size_t tracks;
     size_t room;
     size_t steps;
 } altairpeg_counts;
 
-/* Derives the plan of a night with the fewest steps, at most counts.steps. In a closed night no car gets code 0.
+/* Derives the plan of a night with the fewest steps, at most counts.steps; in a closed night no car gets code 0.
  * Tests: 1 (cars, trains, tracks, room, limit), 2, 3, 4 (codes), 5, 6.
  * Writes: the code of each car to the first n items of codes.
- * Answers: A the steps, B the passes of the whole plan.
- * 5 says that no plan that builds the trains keeps to the limit, with the destinations closed until the first pull where the
- * night is closed; 6 speaks of the derived plan alone. */
+ * Answers: A the steps, in a closed night at least 1, B the passes of the whole plan.
+ * 5 says that no plan that builds the trains, and in a closed night has no code 0, keeps to the limit; 6 speaks of the
+ * derived plan alone. */
 altairpeg_answer altairpeg_derive(
     const uint16_t *lengths, size_t lengths_len,
     const uint16_t *inbound, size_t inbound_len,
@@ -142,7 +145,7 @@ altairpeg_answer altairpeg_derive(
     uint16_t *codes, size_t codes_len);
 
 /* Checks a plan offered by anyone, by its replay.
- * Tests: 1 (cars, trains, tracks, room, steps), 2, 3, 4 (codes), 7, 14 in a closed night, 8, 6, 9.
+ * Tests: 1 (cars, trains, tracks, room, steps), 2, 3, 4 (codes), 7, in a closed night 14, then 8, 6, 9.
  * Writes: nothing.
  * Answers: A the passes, B the cars of the fullest pull, 0 where the plan has no steps. */
 altairpeg_answer altairpeg_check(
@@ -152,8 +155,8 @@ altairpeg_answer altairpeg_check(
     size_t mark, altairpeg_counts counts);
 
 /* Replays a plan to a stage: stage 0 is the yard after the first roll-in, stage s after s steps.
- * Tests, always of the whole plan: 1 (cars, trains, tracks, room, steps, stage), 2, 3, 4 (codes, tracks, places), 7, 14 in a
- * closed night, 8, 6.
+ * Tests, always of the whole plan: 1 (cars, trains, tracks, room, steps, stage), 2, 3, 4 (codes, tracks, places), 7, in
+ * a closed night 14, then 8, 6.
  * Writes: each car's track to the first n items of on, tracks + train - 1 for the destination of a train; and its place
  * there, from 0, the front, to the first n items of at.
  * Answers: A the passes up to the stage, B 0. */
@@ -169,14 +172,16 @@ altairpeg_answer altairpeg_replay(
  * Tests: an empty card is 10 (A 1); 11; under 5 bytes is 10 (A 5); 1 (cars, trains, tracks, room, steps); shorter than
  * the whole is 10; 4 (lengths, inbound, codes); 2; 3; 12.
  * Writes: the first m items of lengths, the first n of inbound and of codes.
- * Answers: the card's mark, steps, tracks, room, cars and trains; A and B are 0. Edition 1 means open. */
+ * Answers: the card's mark, steps, tracks, room, cars and trains; A and B are 0. The night of a card of edition 1, the
+ * only one yet, is open. */
 altairpeg_card_answer altairpeg_read(
     const uint8_t *card, size_t card_len,
     uint16_t *lengths, size_t lengths_len,
     uint16_t *inbound, size_t inbound_len,
     uint16_t *codes, size_t codes_len);
 
-/* Writes the night card of a plan of an open night: a closed one goes on no card yet, so there is no mark to give.
+/* Writes the night card of a plan of an open night. It takes no mark, since a closed night goes on no card yet: written
+ * here, it would be read as open.
  * Tests: 1 (cars, trains, tracks, room, steps), 2, 3, 4 (codes), 7, 4 (card).
  * Writes: the card's bytes to the front of card.
  * Answers: A the card's length in bytes, B 0. */

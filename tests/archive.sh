@@ -27,7 +27,7 @@ refuses() { # TEXT CRATE...: no build, and the sentence
 }
 
 real=$PWD/target/staticlib/libaltairpeg.a
-says "2 steps, 11 passes" "the repository's archive"
+says "Closed: 3 steps, 14 passes" "the repository's archive"
 
 stub > "$folder/stub.c"
 gcc -c -o "$folder/stub.o" "$folder/stub.c"
@@ -37,7 +37,7 @@ touch -d 2001-01-01 "$ALTAIRPEG_ARCHIVE"
 says "refused 99 1 2: a number the paper does not have (A 1, B 2)" "an old archive of another name"
 cp "$real" "$ALTAIRPEG_ARCHIVE"
 touch -d 2001-01-01 "$ALTAIRPEG_ARCHIVE"
-says "2 steps, 11 passes" "another put in its place, as old"
+says "Closed: 3 steps, 14 passes" "another put in its place, as old"
 
 second=(second/Cargo.toml --features library)
 rm "$ALTAIRPEG_ARCHIVE"
@@ -54,4 +54,4 @@ refuses "has no altairpeg_price, so it is no archive of this edition" rust/Cargo
 ALTAIRPEG_ARCHIVE=target/staticlib/libaltairpeg.a
 refuses "is not a whole path, from / on" rust/Cargo.toml
 ALTAIRPEG_ARCHIVE=
-says "2 steps, 11 passes" "an empty name"
+says "Closed: 3 steps, 14 passes" "an empty name"

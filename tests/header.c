@@ -17,8 +17,9 @@ static int same(altairpeg_answer r, size_t number, size_t a, size_t b) {
     return r.number == number && r.a == a && r.b == b;
 }
 
-/* Case 1 of document 01 with room for 3, and its card. */
-static const uint16_t lengths[] = {6}, inbound[] = {3, 6, 1, 5, 2, 4}, derived[] = {0, 0, 1, 1, 2, 3};
+/* Night N of document 01, what is derived of it open (case 1) and closed, and the card of case 1 with room for 3. */
+static const uint16_t lengths[] = {6}, inbound[] = {3, 6, 1, 5, 2, 4};
+static const uint16_t open_codes[] = {0, 0, 1, 1, 2, 3}, closed_codes[] = {1, 1, 2, 2, 3, 5};
 static const uint8_t bytes[] = {
     0x12, 0x20, 0x0C, 0x06, 0x02, 0x03, 0x00, 0x60, 0x30, 0x02, 0x02, 0x80, 0x40, 0x20, 0x2D, 0x80};
 
@@ -30,20 +31,63 @@ static altairpeg_counts counts(size_t tracks, size_t room, size_t steps) {
     return given;
 }
 
-static void plans(void) {
-    uint16_t codes[7] = {9, 9, 9, 9, 9, 9, 9}, on[6], at[6];
-    altairpeg_answer r = altairpeg_derive(lengths, 1, inbound, 6, counts(2, 3, 8), codes, 7);
-    expect(same(r, ALTAIRPEG_DONE, 2, 11), "derive");
-    expect(memcmp(codes, derived, sizeof derived) == 0 && codes[6] == 9, "codes, and no more");
-    r = altairpeg_derive(lengths, 1, inbound, 6, counts(2, 2, 8), codes, 7);
-    expect(same(r, ALTAIRPEG_TRACK_OVERFILLED, 0, 3), "room");
-    r = altairpeg_check(lengths, 1, inbound, 6, derived, 6, counts(2, 3, 2));
-    expect(same(r, ALTAIRPEG_DONE, 11, 3), "check");
-    r = altairpeg_replay(lengths, 1, inbound, 6, derived, 6, counts(2, 3, 2), 0, on, 6, at, 6);
-    expect(same(r, ALTAIRPEG_DONE, 6, 0), "replay");
+static altairpeg_answer check(const uint16_t *codes, size_t mark, altairpeg_counts given) {
+    return altairpeg_check(lengths, 1, inbound, 6, codes, 6, mark, given);
+}
+
+/* The yard at stage 0, to be seen in on and at. */
+static uint16_t on[6], at[6];
+
+static altairpeg_answer replay(const uint16_t *codes, size_t mark, altairpeg_counts given) {
+    return altairpeg_replay(lengths, 1, inbound, 6, codes, 6, mark, given, 0, on, 6, at, 6);
+}
+
+/* What is derived of the night with this mark: its codes, and nothing behind them. */
+static void derived(size_t mark, size_t room, size_t steps, size_t passes, const uint16_t *wanted) {
+    uint16_t codes[7] = {9, 9, 9, 9, 9, 9, 9};
+    altairpeg_answer r = altairpeg_derive(lengths, 1, inbound, 6, mark, counts(2, room, 8), codes, 7);
+    expect(same(r, ALTAIRPEG_DONE, steps, passes), "derive");
+    expect(memcmp(codes, wanted, 6 * sizeof *codes) == 0 && codes[6] == 9, "codes, and no more");
+    r = altairpeg_derive(lengths, 1, inbound, 6, mark, counts(2, room, steps - 1), codes, 7);
+    expect(same(r, ALTAIRPEG_LIMIT_TOO_LOW, steps, 0), "limit");
+    r = altairpeg_derive(lengths, 1, inbound, 6, mark, counts(2, room - 1, 8), codes, 7);
+    expect(same(r, ALTAIRPEG_TRACK_OVERFILLED, 0, room), "room");
+}
+
+static void open_night(void) {
+    derived(ALTAIRPEG_OPEN, 3, 2, 11, open_codes);
+    expect(same(check(open_codes, ALTAIRPEG_OPEN, counts(2, 3, 2)), ALTAIRPEG_DONE, 11, 3), "check");
+    expect(same(replay(open_codes, ALTAIRPEG_OPEN, counts(2, 3, 2)), ALTAIRPEG_DONE, 6, 0), "replay");
     expect(on[5] == 0 && at[5] == 1 && on[1] == 2 && at[1] == 1, "the yard at stage 0");
-    r = altairpeg_derive(NULL, 0, NULL, 0, counts(2, 3, 8), NULL, 0);
+    altairpeg_answer r = altairpeg_derive(NULL, 0, NULL, 0, ALTAIRPEG_OPEN, counts(2, 3, 8), NULL, 0);
     expect(same(r, ALTAIRPEG_COUNT_OUT_OF_RANGE, 1, 0), "no lists");
+}
+
+/* At stage 0 track 0 has 6 1 5 2 and track 1 has 3 4. */
+static void closed_night(size_t mark) {
+    derived(mark, 4, 3, 14, closed_codes);
+    expect(same(check(closed_codes, mark, counts(2, 4, 3)), ALTAIRPEG_DONE, 14, 4), "check, closed");
+    expect(same(replay(closed_codes, mark, counts(2, 4, 3)), ALTAIRPEG_DONE, 6, 0), "replay, closed");
+    expect(on[5] == 0 && at[5] == 0 && on[3] == 1 && at[3] == 1, "the yard at stage 0, closed");
+    for (int car = 1; car <= 6; car++) expect(on[car - 1] < 2, "no car at its destination before the first pull");
+}
+
+/* The codes of the open night: refused where it is closed, and nothing is written. */
+static void zero_code(size_t mark) {
+    memset(on, 0xff, sizeof on);
+    memset(at, 0xff, sizeof at);
+    expect(same(check(open_codes, mark, counts(2, 3, 2)), ALTAIRPEG_ZERO_CODE, 1, 0), "check, a zero code");
+    expect(same(replay(open_codes, mark, counts(2, 3, 2)), ALTAIRPEG_ZERO_CODE, 1, 0), "replay, a zero code");
+    for (int car = 1; car <= 6; car++) expect(on[car - 1] == 0xffff && at[car - 1] == 0xffff, "nothing written");
+}
+
+/* Every mark but 0 is closed, also one of which a byte, or half of a size_t, is 0. */
+static void marks(void) {
+    const size_t closed[] = {ALTAIRPEG_CLOSED, 2, 256, (size_t)-1 / 2 + 1, (size_t)-1};
+    for (size_t i = 0; i < sizeof closed / sizeof *closed; i++) {
+        closed_night(closed[i]);
+        zero_code(closed[i]);
+    }
 }
 
 static uint16_t card_lengths[ALTAIRPEG_TRAINS], card_inbound[ALTAIRPEG_CARS], card_codes[ALTAIRPEG_CARS];
@@ -53,19 +97,33 @@ static altairpeg_card_answer read_first(size_t length) {
         bytes, length, card_lengths, ALTAIRPEG_TRAINS, card_inbound, ALTAIRPEG_CARS, card_codes, ALTAIRPEG_CARS);
 }
 
+/* A number, two details and six counts, in the order of their names, without gaps. */
+static void card_answer(void) {
+    const size_t places[] = {
+        offsetof(altairpeg_card_answer, number), offsetof(altairpeg_card_answer, a),
+        offsetof(altairpeg_card_answer, b),      offsetof(altairpeg_card_answer, mark),
+        offsetof(altairpeg_card_answer, steps),  offsetof(altairpeg_card_answer, tracks),
+        offsetof(altairpeg_card_answer, room),   offsetof(altairpeg_card_answer, cars),
+        offsetof(altairpeg_card_answer, trains), sizeof(altairpeg_card_answer)};
+    for (size_t i = 0; i < sizeof places / sizeof *places; i++)
+        expect(places[i] == i * sizeof(size_t), "layout of the card's answer");
+}
+
 static void cards(void) {
     uint8_t card[ALTAIRPEG_CARD_BYTES];
     altairpeg_card_answer r = read_first(sizeof bytes);
     expect(r.number == ALTAIRPEG_DONE && r.a == 0 && r.b == 0, "read");
+    expect(r.mark == ALTAIRPEG_OPEN, "mark of the card");
     expect(r.steps == 2 && r.tracks == 2 && r.room == 3 && r.cars == 6 && r.trains == 1, "counts of the card");
     expect(card_lengths[0] == 6 && memcmp(card_inbound, inbound, sizeof inbound) == 0, "night of the card");
-    expect(memcmp(card_codes, derived, sizeof derived) == 0, "codes of the card");
+    expect(memcmp(card_codes, open_codes, sizeof open_codes) == 0, "codes of the card");
     altairpeg_answer w = altairpeg_write(
         card_lengths, r.trains, card_inbound, r.cars, card_codes, r.cars, counts(r.tracks, r.room, r.steps), card, sizeof card);
     expect(same(w, ALTAIRPEG_DONE, sizeof bytes, 0), "write");
     expect(memcmp(card, bytes, sizeof bytes) == 0, "bytes of the card");
     r = read_first(15);
-    expect(r.number == ALTAIRPEG_CARD_TOO_SHORT && r.a == 16 && r.steps == 0 && r.trains == 0, "a short card");
+    expect(r.number == ALTAIRPEG_CARD_TOO_SHORT && r.a == 16, "a short card");
+    expect(r.mark == 0 && r.steps == 0 && r.trains == 0, "counts of a refused card");
 }
 
 static void prices(void) {
@@ -79,7 +137,9 @@ static void prices(void) {
 }
 
 int main(void) {
-    plans();
+    open_night();
+    marks();
+    card_answer();
     cards();
     prices();
     return faults;

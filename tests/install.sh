@@ -21,14 +21,20 @@ flags_given() {
     fi
 }
 
-# README's lines, with what they need around them, and the whole program of USING.
+# README's lines, with what they need around them, and the whole program of USING; and what the papers say that they print.
 readme_program() {
     printf '#include <altairpeg.h>\n#include <stdio.h>\nint main(void) {\n'
     sed -n '/^    uint16_t lengths/,/altairpeg_derive/p' README.md
     printf 'printf("%%zu %%zu %%zu:", r.number, r.a, r.b);\nfor (int i = 0; i < 6; i++) printf(" %%d", codes[i]);\n}\n'
 }
+readme_says() {
+    sed -n 's|.*/\* r.number \(.*\), r.a \(.*\) steps, r.b \(.*\) passes, codes \(.*\) \*/|\1 \2 \3: \4|p' README.md
+}
 using_program() {
     sed -n '/^    #include <stdio.h>/,/^    }/p' docs/USING.md
+}
+using_says() {
+    sed -n 's/^prints `\([0-9 ]*\)`: done,.*/\1/p' docs/USING.md
 }
 
 strict=(gcc -Wall -Wextra -Wpedantic -Werror)
@@ -47,8 +53,14 @@ make --silent install RT=false PREFIX="$prefix"
 flags=$(flags_given)
 readme_program > "$folder/readme.c"
 using_program > "$folder/using.c"
-try readme "0 2 11: 0 0 1 1 2 3"
-try using "0 2 11"
+try readme "$(readme_says)"
+try using "$(using_says)"
+
+# The papers name the shared object as it is installed.
+object=$(readlink "$prefix/lib/libaltairpeg.so")
+for paper in docs/USING.md docs/DECISIONS.md; do
+    grep -qF "\`$object\`" "$paper" || fail "$paper has no $object"
+done
 
 first_card > "$folder/card"
 lines=$'steps 2 tracks 2 room 3 cars 6 trains 1 passes 11\ntrain 1: 1 2 3 4 5 6'

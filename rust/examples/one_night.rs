@@ -1,16 +1,22 @@
-//! One night: derived with the fewest steps, priced, followed stage by stage, and stored on its card.
+//! One night, closed as in most yards and then open: derived with the fewest steps, priced, followed
+//! stage by stage, and stored on its card where it has one.
 
-use altairpeg::{derive, price, replay, write_card, Night, Plan, Refusal, Timings};
+use altairpeg::{derive, price, replay, write_card, Mark, Night, Plan, Refusal, Timings};
 use std::process::ExitCode;
 
 fn main() -> ExitCode {
-    let night = Night {
+    let closed = Night {
         lengths: &[6],
         inbound: &[3, 6, 1, 5, 2, 4],
         tracks: 2,
-        room: 3,
+        room: 4,
+        mark: Mark::Closed,
     };
-    match tell(night) {
+    let open = Night {
+        mark: Mark::Open,
+        ..closed
+    };
+    match tell(closed).and_then(|()| tell(open)) {
         Ok(()) => ExitCode::SUCCESS,
         Err(refusal) => {
             eprintln!("{refusal}");
@@ -19,7 +25,7 @@ fn main() -> ExitCode {
     }
 }
 
-/// Prints the derived plan, its price, the yard at each stage, and the card.
+/// Prints the mark, the derived plan, its price, the yard at each stage, and the card.
 fn tell(night: Night) -> Result<(), Refusal> {
     let derived = derive(night, 8)?;
     let timings = Timings {
@@ -28,15 +34,18 @@ fn tell(night: Night) -> Result<(), Refusal> {
     };
     let seconds = price(derived.steps, derived.passes, timings)?;
     println!(
-        "{} steps, {} passes, {seconds} seconds",
-        derived.steps, derived.passes
+        "{:?}: {} steps, {} passes, {seconds} seconds",
+        night.mark, derived.steps, derived.passes
     );
     println!("codes {}", spaced(&derived.codes));
     let plan = derived.plan(night);
     for stage in 0..=plan.steps {
         println!("stage {stage}: {}", yard(plan, stage)?);
     }
-    println!("card {:02x?}", write_card(plan)?);
+    match plan.open() {
+        Some(plan) => println!("card {:02x?}", write_card(plan)?),
+        None => println!("no card: closed nights go on none yet"),
+    }
     Ok(())
 }
 

@@ -3,6 +3,13 @@
 //! A safe wrapper over the proved library: lists in, a result with named fields out, and a
 //! [`Refusal`] with the paper's number, details and words where a call refuses.
 //!
+//! Every night has a [`Mark`]: its destination tracks are open from the first roll-in on or, as in most
+//! yards, closed until the first pull. In a closed night no car has code 0. There is no default:
+//!
+//! ```compile_fail
+//! let mark = altairpeg::Mark::default();
+//! ```
+//!
 //! ```
 //! use altairpeg::{check, derive, Mark, Night};
 //!
@@ -152,8 +159,8 @@ fn items(night: Night) -> Vec<u16> {
 
 /// Derives the plan with the fewest steps; refuses 1, 2, 3, 5 or 6.
 ///
-/// In a closed night no car gets code 0. 5 says that no plan that builds the trains, in a closed night
-/// without code 0, keeps to the limit; 6 speaks of the derived plan alone.
+/// In a closed night no car gets code 0. 5 says that no plan that builds the trains, and in a closed
+/// night has no code 0, keeps to the limit; 6 speaks of the derived plan alone.
 pub fn derive(night: Night, limit: usize) -> Result<Derived, Refusal> {
     let mut codes = items(night);
     let answer = done(altairpeg_sys::derive(night, limit, &mut codes))?;
@@ -164,7 +171,8 @@ pub fn derive(night: Night, limit: usize) -> Result<Derived, Refusal> {
     })
 }
 
-/// Checks a plan offered by anyone, by its replay; refuses 1, 2, 3, 4, 7, 14, 8, 6 or 9.
+/// Checks a plan offered by anyone, by its replay; refuses 1, 2, 3, 4, 7, 14 (only in a closed
+/// night), 8, 6 or 9.
 pub fn check(plan: Plan) -> Result<Checked, Refusal> {
     let answer = done(altairpeg_sys::check(plan))?;
     Ok(Checked {
@@ -220,7 +228,7 @@ pub fn read_card(card: &[u8]) -> Result<Card, Refusal> {
 
 /// Writes the night card of a plan of an open night; refuses 1, 2, 3, 4 or 7.
 ///
-/// A closed night goes on no card yet: [`Plan::open`] gives nothing for one.
+/// A closed night goes on no card yet, so [`Plan::open`] is `None` for its plans.
 pub fn write_card(plan: OpenPlan) -> Result<Vec<u8>, Refusal> {
     let mut card = vec![0; CARD_BYTES];
     let answer = done(altairpeg_sys::write(plan, &mut card))?;

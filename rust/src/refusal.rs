@@ -21,7 +21,7 @@ impl Refusal {
     /// The kind of the refusal, for a `match`.
     ///
     /// ```
-    /// use altairpeg::{derive, Kind, Night};
+    /// use altairpeg::{derive, Kind, Mark, Night};
     ///
     /// let night = Night { lengths: &[6], inbound: &[3, 6, 1, 5, 2, 4], tracks: 2, room: 3, mark: Mark::Open };
     /// let refusal = derive(night, 1).unwrap_err();

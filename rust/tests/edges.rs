@@ -1,19 +1,21 @@
 //! Inputs at the ends of what the types hold: none of them stops a call.
 
 use altairpeg::{check, derive, price, read_card, replay, write_card};
-use altairpeg::{Kind, Night, Plan, Refusal, Timings, CARS, TRAINS};
+use altairpeg::{Kind, Mark, Night, Plan, Refusal, Timings, CARS, TRAINS};
 
 const NIGHT: Night = Night {
     lengths: &[2],
     inbound: &[2, 1],
     tracks: 2,
     room: 2,
+    mark: Mark::Open,
 };
 const PLAN: Plan = Plan {
     night: NIGHT,
     steps: 1,
     codes: &[0, 1],
 };
+const MARKS: [Mark; 2] = [Mark::Open, Mark::Closed];
 const TIMINGS: Timings = Timings {
     pull: 0.0,
     push: 4096.0,
@@ -23,16 +25,33 @@ fn refused(number: usize, a: usize) -> Refusal {
     Refusal { number, a, b: 0 }
 }
 
-/// What every call that takes a plan says of it, which must be the same.
+/// The card of a plan of an open night.
+fn card(plan: Plan) -> Result<Vec<u8>, Refusal> {
+    write_card(plan.open().expect("an open night"))
+}
+
+/// What every call that takes a plan says of it, which must be the same, open or closed.
 fn all_refuse(plan: Plan, number: usize, a: usize) {
-    assert_eq!(check(plan), Err(refused(number, a)));
-    assert_eq!(replay(plan, 0), Err(refused(number, a)));
-    assert_eq!(write_card(plan), Err(refused(number, a)));
+    for mark in MARKS {
+        let night = Night { mark, ..plan.night };
+        let plan = Plan { night, ..plan };
+        assert_eq!(check(plan), Err(refused(number, a)));
+        assert_eq!(replay(plan, 0), Err(refused(number, a)));
+    }
+    assert_eq!(card(plan), Err(refused(number, a)));
+}
+
+/// What derive says of a night, which must be the same, open or closed.
+fn derive_refuses(night: Night, limit: usize, number: usize, a: usize) {
+    for mark in MARKS {
+        let night = Night { mark, ..night };
+        assert_eq!(derive(night, limit), Err(refused(number, a)));
+    }
 }
 
 /// What the calls that take a night, alone or in a plan, say of it.
 fn all_refuse_night(night: Night, number: usize, a: usize) {
-    assert_eq!(derive(night, 8), Err(refused(number, a)));
+    derive_refuses(night, 8, number, a);
     all_refuse(Plan { night, ..PLAN }, number, a);
 }
 
@@ -67,7 +86,7 @@ fn counts_of_every_size() {
             1,
             5,
         );
-        assert_eq!(derive(NIGHT, count), Err(refused(1, 5)));
+        derive_refuses(NIGHT, count, 1, 5);
         assert_eq!(replay(PLAN, count), Err(refused(1, 6)));
         assert_eq!(price(count, 0, TIMINGS), Err(refused(1, 5)));
     }
@@ -130,29 +149,36 @@ fn lists_that_are_too_long() {
         4,
         3,
     );
-    let mut card = write_card(PLAN).unwrap();
-    let length = card.len();
-    card.resize(1 << 20, 0);
-    assert_eq!(read_card(&card), Err(refused(12, length)));
+    let mut bytes = card(PLAN).unwrap();
+    let length = bytes.len();
+    bytes.resize(1 << 20, 0);
+    assert_eq!(read_card(&bytes), Err(refused(12, length)));
 }
 
 #[test]
 fn the_largest_night() {
     let cars: Vec<u16> = (1..=CARS as u16).collect();
     let lengths = [8; TRAINS];
-    let night = Night {
+    let open = Night {
         lengths: &lengths,
         inbound: &cars,
         tracks: 8,
         room: 512,
+        mark: Mark::Open,
     };
-    let derived = derive(night, 0).unwrap();
-    assert_eq!(
-        (derived.steps, derived.passes, derived.codes.len()),
-        (0, CARS, CARS)
-    );
-    let card = write_card(derived.plan(night)).unwrap();
-    assert_eq!(read_card(&card).unwrap().plan(), derived.plan(night));
+    let closed = Night {
+        mark: Mark::Closed,
+        ..open
+    };
+    for (night, steps) in [(open, 0), (closed, 1)] {
+        let derived = derive(night, steps).unwrap();
+        assert_eq!((derived.steps, derived.passes), (steps, (steps + 1) * CARS));
+        assert_eq!(derived.codes, [steps as u16; CARS]);
+        assert!(check(derived.plan(night)).is_ok());
+    }
+    let derived = derive(open, 0).unwrap();
+    let bytes = card(derived.plan(open)).unwrap();
+    assert_eq!(read_card(&bytes).unwrap().plan(), derived.plan(open));
 }
 
 #[test]

@@ -1,20 +1,31 @@
-//! The trial nights of document 01, each under its number, through the archive.
+//! The trial nights of document 01, each under its number, and closed nights, through the archive.
 
-use altairpeg::{check, derive, read_card, replay, write_card, Night, Plan, Refusal};
+use altairpeg::{check, derive, read_card, replay, write_card};
+use altairpeg::{Checked, Kind, Mark, Night, Plan, Refusal};
 
 const N: [u16; 6] = [3, 6, 1, 5, 2, 4];
 
-/// Night N, one train.
+/// Night N, one train, open.
 fn n(tracks: usize, room: usize) -> Night<'static> {
     night(&[6], &N, tracks, room)
 }
 
+/// An open night, as all of document 01 are.
 fn night<'a>(lengths: &'a [u16], inbound: &'a [u16], tracks: usize, room: usize) -> Night<'a> {
     Night {
         lengths,
         inbound,
         tracks,
         room,
+        mark: Mark::Open,
+    }
+}
+
+/// The same night, closed.
+fn closed(night: Night) -> Night {
+    Night {
+        mark: Mark::Closed,
+        ..night
     }
 }
 
@@ -155,7 +166,10 @@ fn the_card_of_case_1_there_and_back() {
     let card = read_card(&bytes).unwrap();
     assert_eq!(card.inbound, N);
     assert_eq!((card.steps, card.tracks, card.room), (2, 2, 3));
-    assert_eq!(write_card(card.plan()).unwrap(), bytes);
+    assert_eq!(card.mark, Mark::Open);
+    let plan = card.plan().open().unwrap();
+    assert_eq!(plan.plan(), card.plan());
+    assert_eq!(write_card(plan).unwrap(), bytes);
     assert_eq!(read_card(&[]), Err(refused(10, 1, 0)));
     assert_eq!(read_card(&bytes[..15]), Err(refused(10, 16, 0)));
 }
@@ -168,4 +182,125 @@ fn a_refusal_in_words() {
         "refused 5 3 0: fewest steps above the limit (fewest steps 3)"
     );
     assert_eq!(refused(4, 6, 0).details(), "card");
+}
+
+#[test]
+fn closed_n_on_two_tracks() {
+    let night = closed(n(2, 4));
+    let derived = derive(night, 8).unwrap();
+    assert_eq!(derived.steps, 3);
+    assert_eq!(derived.codes, [1, 1, 2, 2, 3, 5]);
+    assert_eq!(derived.passes, 14);
+    let checked = Checked {
+        passes: 14,
+        fullest_pull: 4,
+    };
+    assert_eq!(check(derived.plan(night)), Ok(checked));
+    assert_eq!(derive(night, 2), Err(refused(5, 3, 0)));
+    assert_eq!(derive(closed(n(2, 3)), 8), Err(refused(6, 0, 4)));
+}
+
+#[test]
+fn the_stages_of_closed_n() {
+    let plan = Plan {
+        night: closed(n(2, 4)),
+        steps: 3,
+        codes: &[1, 1, 2, 2, 3, 5],
+    };
+    let first = replay(plan, 0).unwrap();
+    assert_eq!(first.cars_on(0), [6, 1, 5, 2]);
+    assert_eq!(first.cars_on(1), [3, 4]);
+    assert_eq!(first.cars_on(2), []);
+    assert_eq!(replay(plan, 1).unwrap().cars_on(2), [1, 2]);
+    assert_eq!(replay(plan, 3).unwrap().cars_on(2), [1, 2, 3, 4, 5, 6]);
+}
+
+#[test]
+fn one_car_closed() {
+    let night = closed(night(&[1], &[1], 2, 512));
+    let derived = derive(night, 8).unwrap();
+    assert_eq!((derived.steps, derived.passes), (1, 2));
+    assert_eq!(derived.codes, [1]);
+    assert_eq!(derive(night, 0), Err(refused(5, 1, 0)));
+}
+
+#[test]
+fn reversed_on_eight_tracks_closed() {
+    let inbound = reversed(256);
+    assert_eq!(
+        derive(closed(night(&[256], &inbound, 8, 512)), 8),
+        Err(refused(5, 9, 0))
+    );
+    assert_eq!(steps(closed(night(&[255], &inbound[1..], 8, 512))), 8);
+}
+
+/// What check and replay, to every stage, say of a plan where its night is closed.
+fn refused_closed(plan: Plan, refusal: Refusal) {
+    let night = closed(plan.night);
+    let plan = Plan { night, ..plan };
+    assert_eq!(check(plan), Err(refusal));
+    for stage in 0..=plan.steps {
+        assert_eq!(replay(plan, stage), Err(refusal));
+    }
+}
+
+#[test]
+fn a_zero_code_is_refused_where_the_night_is_closed() {
+    let derived = Plan {
+        night: n(2, 512),
+        steps: 2,
+        codes: &[0, 0, 1, 1, 2, 3],
+    };
+    assert!(check(derived).is_ok());
+    refused_closed(derived, refused(14, 1, 0));
+    let second_train = Plan {
+        night: night(&[1, 2], &[1, 2, 3], 2, 512),
+        steps: 1,
+        codes: &[1, 0, 0],
+    };
+    assert!(check(second_train).is_ok());
+    refused_closed(second_train, refused(14, 2, 0));
+    assert_eq!(refused(14, 2, 0).kind(), Kind::ZeroCode);
+    assert_eq!(
+        refused(14, 2, 0).to_string(),
+        "refused 14 2 0: a zero code in a closed night (car 2)"
+    );
+}
+
+#[test]
+fn a_zero_code_comes_after_a_code_too_large_and_before_an_early_pull() {
+    let night = night(&[1, 1], &[1, 2], 2, 512);
+    let too_large = Plan {
+        night,
+        steps: 1,
+        codes: &[0, 2],
+    };
+    refused_closed(too_large, refused(7, 2, 0));
+    let early = Plan {
+        night,
+        steps: 3,
+        codes: &[4, 0],
+    };
+    assert_eq!(check(early), Err(refused(8, 1, 0)));
+    refused_closed(early, refused(14, 2, 0));
+    let early_alone = Plan {
+        codes: &[4, 1],
+        ..early
+    };
+    refused_closed(early_alone, refused(8, 1, 0));
+}
+
+#[test]
+fn only_the_plan_of_an_open_night_goes_on_a_card() {
+    let night = closed(n(2, 4));
+    let derived = derive(night, 8).unwrap();
+    assert_eq!(derived.plan(night).open(), None);
+    assert!(derived.plan(n(2, 4)).open().is_some());
+}
+
+#[test]
+fn a_mark_there_and_back() {
+    assert_eq!([Mark::Open, Mark::Closed].map(Mark::number), [0, 1]);
+    assert_eq!([0, 1].map(Mark::of), [Mark::Open, Mark::Closed]);
+    assert_eq!([2, usize::MAX].map(Mark::of), [Mark::Closed; 2]);
 }

@@ -14,7 +14,7 @@ pub const CARD_BYTES: usize = 1237;
 
 /// A night's mark: whether cars may roll to the destination tracks from the start.
 ///
-/// There is no usual one that a caller could leave out: most yards are closed, most cards so far open.
+/// It has no default: most yards are closed by day, every card so far is open, so the caller says which.
 #[derive(Clone, Copy, Debug, PartialEq, Eq, Hash)]
 pub enum Mark {
     /// The destination tracks take cars from the first roll-in on.
@@ -24,7 +24,7 @@ pub enum Mark {
 }
 
 impl Mark {
-    /// The mark that a call tells or takes as a number: 0 is open, every other closed.
+    /// The mark of a number, as the calls take it: 0 is open, every other closed.
     #[inline]
     pub fn of(number: usize) -> Mark {
         if number == 0 {
@@ -82,7 +82,7 @@ impl<'a> Plan<'a> {
     }
 }
 
-/// A plan of an open night: what a card of edition 1 holds. [`Plan::open`] makes it.
+/// A plan of an open night, made by [`Plan::open`]: what a card of edition 1 holds.
 #[derive(Clone, Copy, Debug, PartialEq, Eq)]
 pub struct OpenPlan<'a>(Plan<'a>);
 
@@ -106,7 +106,11 @@ struct Counts {
 
 impl Counts {
     fn of(night: Night, steps: usize) -> Counts {
-        Counts { tracks: night.tracks, room: night.room, steps }
+        Counts {
+            tracks: night.tracks,
+            room: night.room,
+            steps,
+        }
     }
 }
 
@@ -122,13 +126,13 @@ pub struct Answer {
     pub b: usize,
 }
 
-/// What the card reader tells: an answer, and counts that are all 0 where it refuses.
+/// What the card reader tells: an answer, and a mark and counts that are all 0 where it refuses.
 #[repr(C)]
 #[derive(Clone, Copy, Debug, PartialEq, Eq)]
 pub struct CardAnswer {
     /// The number and its details.
     pub answer: Answer,
-    /// The number of the card's mark, [`Mark::of`] it: edition 1 means open.
+    /// The number of the card's mark, for [`Mark::of`]; edition 1 means open.
     pub mark: usize,
     /// The card's steps.
     pub steps: usize,

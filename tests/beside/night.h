@@ -4,12 +4,15 @@
 #include <stddef.h>
 #include <stdint.h>
 
-enum { CARS = 512, TRAINS = 64, CARD = 1237, CALLS = 6 };
+enum { CARS = 512, TRAINS = 64, CARD = 1237, CALLS = 9 };
 
 struct night {
     size_t cars, trains, tracks, room, steps, stage, card_len;
     uint16_t lengths[TRAINS], inbound[CARS], codes[CARS];
     uint8_t card[CARD];
+    /* the plan of the night closed; the codes and steps above are those of the night open, which every edition has */
+    size_t closed_steps;
+    uint16_t closed_codes[CARS];
     /* what the calls write */
     uint16_t lengths_out[TRAINS], inbound_out[CARS], codes_out[CARS], on[CARS], at[CARS];
     uint8_t card_out[CARD];
@@ -23,6 +26,6 @@ struct told {
 typedef struct told calls_of_a_night(struct night *);
 
 /* A call that an edition lacks is NULL, and is not measured. */
-enum { DERIVE, CHECK, REPLAY, READ, WRITE, LISTS };
+enum { DERIVE, CHECK, REPLAY, READ, WRITE, LISTS, DERIVE_CLOSED, CHECK_CLOSED, REPLAY_CLOSED };
 extern calls_of_a_night *const calls[CALLS];
 #endif

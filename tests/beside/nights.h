@@ -4,7 +4,8 @@
 #include "night.h"
 #include <string.h>
 
-static const char *const NAMES[CALLS] = {"derive", "check", "replay", "read", "write", "lists"};
+static const char *const NAMES[CALLS] = {"derive", "check", "replay", "read", "write", "lists",
+                                         "derive-closed", "check-closed", "replay-closed"};
 static uint64_t state = 88172645463325252u;
 
 /* A number below a bound, the same in each run. */
@@ -51,9 +52,19 @@ static int planned(struct night *n) {
     return written.number == 0 && calls[CHECK](n).number == 0;
 }
 
-/* A night of so many cars for which a plan of eight steps is found. */
+/* Its derived plan with the night closed, or 0 where a call refuses; an edition without closed nights has none. */
+static int planned_closed(struct night *n) {
+    if (!calls[DERIVE_CLOSED]) return 1;
+    struct told derived = calls[DERIVE_CLOSED](n);
+    if (derived.number != 0) return 0;
+    memcpy(n->closed_codes, n->codes_out, sizeof n->closed_codes);
+    n->closed_steps = derived.a;
+    return calls[CHECK_CLOSED](n).number == 0;
+}
+
+/* A night of so many cars for which plans of eight steps are found, open and closed. */
 static void planned_night(struct night *n, size_t cars) {
     do any_night(n, cars);
-    while (!planned(n));
+    while (!planned(n) || !planned_closed(n));
 }
 #endif
