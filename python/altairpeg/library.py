@@ -18,6 +18,8 @@ CARS = 512
 TRAINS = 64
 STEPS = 8
 CARD_BYTES = 1237
+# The numbers of the marks; every other number is taken for closed, too.
+OPEN, CLOSED = 0, 1
 
 
 class Answer(ctypes.Structure):
@@ -35,7 +37,7 @@ class Counts(ctypes.Structure):
 class CardAnswer(ctypes.Structure):
     """What the card reader tells."""
 
-    _fields_ = [*Answer._fields_, *((name, c_size_t) for name in ("steps", "tracks", "room", "cars", "trains"))]
+    _fields_ = [*Answer._fields_, *((name, c_size_t) for name in ("mark", "steps", "tracks", "room", "cars", "trains"))]
 
 
 class Timings(ctypes.Structure):
@@ -60,14 +62,15 @@ class Items:
 
 LIST: list[Any] = [Items, c_size_t]
 NIGHT = LIST + LIST
-PLAN = NIGHT + LIST + [Counts]
+MARKED: list[Any] = [c_size_t, Counts]
+PLAN = NIGHT + LIST + MARKED
 
 CALLS: dict[str, tuple[list[Any], Any]] = {
-    "altairpeg_derive": (NIGHT + [Counts] + LIST, Answer),
+    "altairpeg_derive": (NIGHT + MARKED + LIST, Answer),
     "altairpeg_check": (PLAN, Answer),
     "altairpeg_replay": (PLAN + [c_size_t] + LIST + LIST, Answer),
     "altairpeg_read": (LIST * 4, CardAnswer),
-    "altairpeg_write": (PLAN + LIST, Answer),
+    "altairpeg_write": (NIGHT + LIST + [Counts] + LIST, Answer),
     "altairpeg_price": ([c_size_t, c_size_t, Timings], PriceAnswer),
     "altairpeg_fewest_tracks": ([c_uint8], c_size_t),
 }
