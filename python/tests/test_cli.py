@@ -65,7 +65,8 @@ class Cards(Scratch):
         for given in (
             [], NIGHT[:-2], [*NIGHT, "--steps", "2"], [*NIGHT, "--codes", "0"], [*NIGHT, night], [night, "--room", "3"],
             [*NIGHT, "--inbound", "a"], [*NIGHT, "--unknown"], [*NIGHT, "--limit", "1", "--steps", "2", "--codes", "0"],
-            [*NIGHT, "--mark", "shut"], [*NIGHT, "-o", self.folder / "new.json"], [*NIGHT, "-o", ""], [*NIGHT, "-o", self.folder], [*NIGHT, "-o", self.folder / "missing" / "new.card"],
+            [*NIGHT, "--mark", "shut"], [*NIGHT, "-o", self.folder / "new.json"],
+            [*NIGHT, "-o", ""], [*NIGHT, "-o", self.folder], [*NIGHT, "-o", self.folder / "missing" / "new.card"],
             [self.folder / "missing.json"], [self.folder],
         ):
             with self.subTest(given):

@@ -191,12 +191,14 @@ class Marks(Scratch):
         self.assertEqual(Night._field_defaults, {})
 
     def test_what_is_no_mark(self):
+        message = r"^mark is .*, not Mark\.OPEN, Mark\.CLOSED, 'open' or 'closed'$"
         for given in (True, False, 0, 1, None, "shut", "Open", "CLOSED", "", b"open", [], ["open"], {}, Mark, Unshown()):
-            night = n(mark=given)
-            for call in (derive, *(lambda night, of=of: of(Plan(night, 2, CODES)) for of in (check, write_card, lambda plan: replay(plan, 0)))):
-                with self.subTest(type(given).__name__), self.assertRaises(InputError) as caught:
-                    call(night)
-                self.assertRegex(str(caught.exception), "^mark is .*, not Mark.OPEN, Mark.CLOSED, 'open' or 'closed'$")
+            plan = Plan(n(mark=given), 2, CODES)
+            with self.subTest(type(given).__name__):
+                self.assertRaisesRegex(InputError, message, derive, plan.night)
+                self.assertRaisesRegex(InputError, message, replay, plan, 0)
+                for call in (check, write_card):
+                    self.assertRaisesRegex(InputError, message, call, plan)
 
     def test_the_reader_tells_the_mark(self):
         self.assertIs(read_card(CARD).night.mark, Mark.OPEN)
@@ -283,7 +285,8 @@ class Numpy(Scratch):
     def test_arrays(self):
         for kind in ("u1", "u2", "i2", "i4", "i8", "u8", ">u2", ">i8", "O"):
             with self.subTest(kind):
-                self.assertEqual(derive(Night(numpy.array([6], kind), numpy.array(INBOUND, kind), numpy.int64(2), numpy.uint8(3), OPEN)), DERIVED)
+                lengths, inbound = numpy.array([6], kind), numpy.array(INBOUND, kind)
+                self.assertEqual(derive(Night(lengths, inbound, numpy.int64(2), numpy.uint8(3), OPEN)), DERIVED)
         gaps = numpy.array([number for car in INBOUND for number in (car, 0)])[::2]
         self.assertEqual(derive(Night([6], gaps, 2, 3, OPEN)), DERIVED)
         self.assertEqual(derive(Night([6], [numpy.int64(car) for car in INBOUND], 2, 3, OPEN)), DERIVED)

@@ -74,8 +74,9 @@ class Picture(unittest.TestCase):
         self.assertEqual(told.count("6"), 1, "a car that may roll is drawn once, and not marked")
 
     def test_nothing_leaves_the_picture(self):
+        plans = (Plan(Night([1], [1], 1, 1, OPEN), 0, [0]), many(4, 15), many(64, 8), many(1, 512, 8), OVERFILLED, ALL_EARLY)
         closed = (SHUT, BARRED, many(4, 15, mark=CLOSED), many(5, 1, mark=CLOSED), many(1, 512, 8, CLOSED), zeroed(many(64, 8, mark=CLOSED)))
-        for plan in (Plan(Night([1], [1], 1, 1, OPEN), 0, [0]), many(4, 15), many(64, 8), many(1, 512, 8), OVERFILLED, ALL_EARLY, *closed):
+        for plan in (*plans, *closed):
             root = ElementTree.fromstring(picture(tell(plan)))
             width, height = int(root.get("width")), int(root.get("height"))
             for box in root.iter(f"{NAME}rect"):
