@@ -3,16 +3,15 @@
 from __future__ import annotations
 
 import ctypes
+from array import array
 from ctypes import c_double, c_size_t, c_uint8, c_void_p
 from functools import lru_cache
 from pathlib import Path
-from typing import TYPE_CHECKING, Any
+from typing import Any
 
 from . import building
 from .errors import LibraryError
-
-if TYPE_CHECKING:
-    from array import array
+from .words import NAMES
 
 CARS = 512
 TRAINS = 64
@@ -88,7 +87,20 @@ def opened(path: Path, told: Path) -> ctypes.CDLL:
         raise LibraryError(f"{told} gives a shared object that can't be loaded: {trouble}") from None
     except AttributeError:
         raise LibraryError(f"{told} is broken or not of Altairpeg's library: it has no {name}") from None
+    if not _takes_marks(library):
+        raise LibraryError(f"{told} is of an Altairpeg before 2.0.0, whose calls take no mark: run `rt staticlib altairpeg` anew")
     return library
+
+
+def _takes_marks(library: ctypes.CDLL) -> bool:
+    """Whether check refuses a closed night's code 0.
+
+    A library without marks has calls of the same names; it takes one count for another and answers for another night, or
+    writes where it should not. What it is asked here, it accepts.
+    """
+    one, zero = array("H", [1]), array("H", [0])
+    answer = library.altairpeg_check(one, 1, one, 1, zero, 1, CLOSED, Counts(tracks=1, room=1, steps=0))
+    return NAMES.get(answer.number) == "ZERO_CODE"
 
 
 def _of_archive(source: Path) -> ctypes.CDLL:
