@@ -3,7 +3,7 @@
 Lists in, named tuples out, and a `Refusal` with the paper's number, details and words where a call refuses.
 
 >>> import altairpeg
->>> night = altairpeg.Night(lengths=[6], inbound=[3, 6, 1, 5, 2, 4], tracks=2, room=3)
+>>> night = altairpeg.Night(lengths=[6], inbound=[3, 6, 1, 5, 2, 4], tracks=2, room=3, mark="open")
 >>> altairpeg.derive(night)
 Derived(steps=2, passes=11, codes=[0, 0, 1, 1, 2, 3])
 >>> altairpeg.derive(night, limit=1)
@@ -11,21 +11,26 @@ Traceback (most recent call last):
     ...
 altairpeg.refusal.Refusal: refused 5 2 0: fewest steps above the limit (fewest steps 2)
 
-Every error is an `AltairpegError`: a `Refusal`; an `InputError`, which is a `ValueError`, where something is no number, list
-or card at all; a `FileError`, which is an `OSError`; a `LibraryError` where the library can't be loaded.
+Where the destination tracks serve other work until the first pull, the night is closed, and no car gets code 0:
+
+>>> altairpeg.derive(night._replace(room=4, mark="closed"))
+Derived(steps=3, passes=14, codes=[1, 1, 2, 2, 3, 5])
+
+Every error is an `AltairpegError`: a `Refusal`; an `InputError`, which is a `ValueError`, where something is no number, list,
+mark or card at all; a `FileError`, which is an `OSError`; a `LibraryError` where the library can't be loaded.
 
 `python3 -m altairpeg --help`, or `altairpeg --help` where it is installed, tells of the command line.
 """
 
 from .calls import check, derive, fewest_tracks, price, read_card, read_card_file, replay, write_card
 from .errors import AltairpegError, FileError, InputError, LibraryError
-from .nights import Checked, Derived, Night, Numbers, Plan, Stage
+from .nights import Checked, Derived, Mark, Night, Numbers, Plan, Stage
 from .refusal import Refusal
 
 __version__ = "2.0.0"
 
 __all__ = [
-    "Night", "Plan", "Derived", "Checked", "Stage", "Numbers",
+    "Night", "Mark", "Plan", "Derived", "Checked", "Stage", "Numbers",
     "AltairpegError", "Refusal", "InputError", "FileError", "LibraryError",
     "derive", "check", "replay", "read_card", "read_card_file", "write_card", "price", "fewest_tracks",
 ]

@@ -8,8 +8,8 @@ from typing import Any, SupportsFloat, SupportsIndex
 
 from . import lists
 from .errors import FileError, InputError, shown
-from .library import CARD_BYTES, CARS, TRAINS, Counts, Timings, library
-from .nights import Checked, Derived, Night, Plan, Stage
+from .library import CARD_BYTES, CARS, OPEN, TRAINS, Counts, Timings, library
+from .nights import Checked, Derived, Mark, Night, Plan, Stage
 from .places import place
 from .refusal import Refusal
 
@@ -19,14 +19,14 @@ _CODE_TOO_LARGE_FOR_ANY_STEPS = lists.LARGEST
 def derive(night: Night, limit: SupportsIndex = 8) -> Derived:
     """Derives the plan of a night with the fewest steps, as `Derived`.
 
-    Refuses 1, 2, 3, 5 or 6. 5 says that no plan that builds the trains keeps to the limit; 6 speaks of
-    the derived plan alone.
+    Refuses 1, 2, 3, 5 or 6. 5 says that no plan that builds the trains keeps to the limit, with the
+    destinations closed until the first pull where the night is closed; 6 speaks of the derived plan alone.
     """
-    lengths, inbound, tracks, room = _night(night)
+    lengths, inbound, tracks, room, mark = _night(night)
     cars = len(inbound)
     codes = lists.zeros(cars)
     counts = Counts(tracks, room, lists.count("limit", limit))
-    answer = library().altairpeg_derive(lengths, len(lengths), inbound, cars, counts, codes, cars)
+    answer = library().altairpeg_derive(lengths, len(lengths), inbound, cars, mark, counts, codes, cars)
     if answer.number:
         raise _refusal(answer, limit=limit, **night._asdict())
     derived = Derived(answer.a, answer.b, codes.tolist())
@@ -35,7 +35,10 @@ def derive(night: Night, limit: SupportsIndex = 8) -> Derived:
 
 
 def check(plan: Plan) -> Checked:
-    """Checks a plan offered by anyone, by its replay, as `Checked`. Refuses 1, 2, 3, 4, 7, 8, 6 or 9."""
+    """Checks a plan offered by anyone, by its replay, as `Checked`.
+
+    Refuses 1, 2, 3, 4, 7, 14 (a zero code in a closed night), 8, 6 or 9.
+    """
     answer = library().altairpeg_check(*_plan(plan))
     if answer.number:
         raise _plan_refusal(answer, plan)
@@ -57,13 +60,17 @@ def replay(plan: Plan, stage: SupportsIndex) -> Stage:
 
 
 def read_card(card: bytes | bytearray | memoryview) -> Plan:
-    """Reads a night card from bytes, as `Plan`. Refuses 10, 11, 1, 2, 3 or 12. It accepts plans that `check` would refuse."""
+    """Reads a night card from bytes, as `Plan`; edition 1 means an open night.
+
+    Refuses 10, 11, 1, 2, 3 or 12. It accepts plans that `check` would refuse.
+    """
     data = lists.card(card)
     lengths, inbound, codes = lists.zeros(TRAINS), lists.zeros(CARS), lists.zeros(CARS)
     told = library().altairpeg_read(data, len(data), lengths, TRAINS, inbound, CARS, codes, CARS)
     if told.number:
         raise _refusal(told)
-    night = Night(lengths[: told.trains].tolist(), inbound[: told.cars].tolist(), told.tracks, told.room)
+    mark = Mark.OPEN if told.mark == OPEN else Mark.CLOSED
+    night = Night(lengths[: told.trains].tolist(), inbound[: told.cars].tolist(), told.tracks, told.room, mark)
     return Plan(night, told.steps, codes[: told.cars].tolist())
 
 
@@ -84,12 +91,23 @@ def card_bytes(path: str | os.PathLike[str]) -> bytes:
 
 
 def write_card(plan: Plan) -> bytes:
-    """Writes the night card of a plan, as `bytes`. Refuses 1, 2, 3, 4 or 7."""
+    """Writes the night card of a plan of an open night, as `bytes`. Refuses 1, 2, 3, 4 or 7.
+
+    A closed night raises `InputError` before any refusal: document 01 has no number for it.
+    """
+    *taken, _, counts = _plan(plan)
+    needs_open(plan.night)
     card = array("B", bytes(CARD_BYTES))
-    answer = library().altairpeg_write(*_plan(plan), card, CARD_BYTES)
+    answer = library().altairpeg_write(*taken, counts, card, CARD_BYTES)
     if answer.number:
         raise _plan_refusal(answer, plan)
     return card[: answer.a].tobytes()
+
+
+def needs_open(night: Night) -> None:
+    """Tells of a closed night where a card is to be written."""
+    if lists.mark(night.mark) != OPEN:
+        raise InputError("a closed night goes on no card yet: a card of edition 1 means an open one")
 
 
 def price(steps: SupportsIndex, passes: SupportsIndex, pull: SupportsFloat, push: SupportsFloat) -> float:
@@ -112,8 +130,8 @@ def fewest_tracks(code: SupportsIndex) -> int:
     return int(library().altairpeg_fewest_tracks(number))
 
 
-def _night(night: Night) -> tuple[array[int], array[int], int, int]:
-    """The lists and counts of a night as the library takes them."""
+def _night(night: Night) -> tuple[array[int], array[int], int, int, int]:
+    """The lists, the counts and the mark of a night as the library takes them."""
     if not isinstance(night, Night):
         raise InputError(f"night is {shown(night)}, not a Night")
     return (
@@ -121,6 +139,7 @@ def _night(night: Night) -> tuple[array[int], array[int], int, int]:
         lists.numbers("inbound", night.inbound),
         lists.count("tracks", night.tracks),
         lists.count("room", night.room),
+        lists.mark(night.mark),
     )
 
 
@@ -128,10 +147,10 @@ def _plan(plan: Plan) -> tuple[Any, ...]:
     """A plan as the library takes it."""
     if not isinstance(plan, Plan):
         raise InputError(f"plan is {shown(plan)}, not a Plan")
-    lengths, inbound, tracks, room = _night(plan.night)
+    lengths, inbound, tracks, room, mark = _night(plan.night)
     codes = lists.numbers("codes", plan.codes, negative=_CODE_TOO_LARGE_FOR_ANY_STEPS)
     counts = Counts(tracks, room, lists.count("steps", plan.steps))
-    return lengths, len(lengths), inbound, len(inbound), codes, len(codes), counts
+    return lengths, len(lengths), inbound, len(inbound), codes, len(codes), mark, counts
 
 
 def _refusal(answer: Any, **given: Any) -> Refusal:

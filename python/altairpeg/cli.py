@@ -14,9 +14,9 @@ from decimal import Decimal, InvalidOperation
 from typing import Any, Sequence
 
 from . import __version__, batch, make, show
-from .calls import check, derive, price, write_card
+from .calls import check, derive, needs_open, price
 from .errors import AltairpegError, InputError
-from .files import CARD_HELP, headline, read_plan
+from .files import CARD_HELP, JSON_HELP, headline, is_json, kept, read_night, read_plan
 from .nights import Plan
 from .output import write_whole
 from .refusal import Refusal
@@ -96,18 +96,23 @@ def _parser() -> argparse.ArgumentParser:
 
 def _register_derive(commands: Any) -> None:
     """derive CARD"""
-    parser = commands.add_parser("derive", allow_abbrev=False, help="derive the night of a card anew, with the fewest steps")
+    words = "derive the night of a card or a JSON file anew, with the fewest steps"
+    parser = commands.add_parser("derive", allow_abbrev=False, help=words, epilog=JSON_HELP)
     parser.add_argument("card", metavar="CARD", help=CARD_HELP)
     parser.add_argument("--limit", type=int, default=8, metavar="STEPS", help="the most steps allowed, 0 to 8 (8)")
-    parser.add_argument("-o", "--output", metavar="FILE", help="keep the new card here; - is standard output, which then has nothing else")
+    kept_help = "keep the new plan here, as JSON where the name ends in .json, else as a card; - is standard output, for a card alone"
+    parser.add_argument("-o", "--output", metavar="FILE", help=kept_help)
     parser.set_defaults(run=_derive)
 
 
 def _derive(given: argparse.Namespace) -> int:
-    """Prints the derived plan, or writes its card."""
-    derived = derive(read_plan(given.card).night, given.limit)
+    """Prints the derived plan, and keeps it where that is asked for."""
+    night = read_night(given.card)
+    if given.output is not None and not is_json(given.output):
+        needs_open(night)  # before it is derived: a night that goes on no card is no refusal
+    derived = derive(night, given.limit)
     if given.output is not None:
-        write_whole(given.output, write_card(derived.plan))
+        write_whole(given.output, kept(given.output, derived.plan))
     if given.output != "-":
         print(headline(derived.plan), "passes", derived.passes)
         print("codes", *derived.codes)
@@ -116,7 +121,8 @@ def _derive(given: argparse.Namespace) -> int:
 
 def _register_check(commands: Any) -> None:
     """check CARD"""
-    parser = commands.add_parser("check", allow_abbrev=False, help="check the plan of a card by its replay")
+    words = "check the plan of a card or a JSON file by its replay"
+    parser = commands.add_parser("check", allow_abbrev=False, help=words, epilog=JSON_HELP)
     parser.add_argument("card", metavar="CARD", help=CARD_HELP)
     parser.set_defaults(run=_check)
 
@@ -131,7 +137,8 @@ def _check(given: argparse.Namespace) -> int:
 
 def _register_price(commands: Any) -> None:
     """price CARD, or price --steps --passes"""
-    parser = commands.add_parser("price", allow_abbrev=False, help="price the plan of a card, or steps and passes")
+    words = "price the plan of a card or a JSON file, or steps and passes"
+    parser = commands.add_parser("price", allow_abbrev=False, help=words, epilog=JSON_HELP)
     parser.add_argument("card", metavar="CARD", nargs="?", help=CARD_HELP)
     parser.add_argument("--steps", type=int, metavar="H", help="in place of a card: its steps")
     parser.add_argument("--passes", type=int, metavar="P", help="in place of a card: its hump passes")

@@ -13,7 +13,7 @@ class AltairpegError(Exception):
 
 
 class InputError(AltairpegError, ValueError):
-    """What was given is not a number, a list or a card at all, so document 01 has no number for it.
+    """What was given is not a number, a list, a mark or a card at all, so document 01 has no number for it.
 
     The message names it, an item of a list by Python's index: `inbound[3] is None, not a whole number`.
     """

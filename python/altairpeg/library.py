@@ -3,21 +3,22 @@
 from __future__ import annotations
 
 import ctypes
+from array import array
 from ctypes import c_double, c_size_t, c_uint8, c_void_p
 from functools import lru_cache
 from pathlib import Path
-from typing import TYPE_CHECKING, Any
+from typing import Any
 
 from . import building
 from .errors import LibraryError
-
-if TYPE_CHECKING:
-    from array import array
+from .words import NAMES
 
 CARS = 512
 TRAINS = 64
 STEPS = 8
 CARD_BYTES = 1237
+# The numbers of the marks; every other number is taken for closed, too.
+OPEN, CLOSED = 0, 1
 
 
 class Answer(ctypes.Structure):
@@ -35,7 +36,7 @@ class Counts(ctypes.Structure):
 class CardAnswer(ctypes.Structure):
     """What the card reader tells."""
 
-    _fields_ = [*Answer._fields_, *((name, c_size_t) for name in ("steps", "tracks", "room", "cars", "trains"))]
+    _fields_ = [*Answer._fields_, *((name, c_size_t) for name in ("mark", "steps", "tracks", "room", "cars", "trains"))]
 
 
 class Timings(ctypes.Structure):
@@ -60,14 +61,15 @@ class Items:
 
 LIST: list[Any] = [Items, c_size_t]
 NIGHT = LIST + LIST
-PLAN = NIGHT + LIST + [Counts]
+MARKED: list[Any] = [c_size_t, Counts]
+PLAN = NIGHT + LIST + MARKED
 
 CALLS: dict[str, tuple[list[Any], Any]] = {
-    "altairpeg_derive": (NIGHT + [Counts] + LIST, Answer),
+    "altairpeg_derive": (NIGHT + MARKED + LIST, Answer),
     "altairpeg_check": (PLAN, Answer),
     "altairpeg_replay": (PLAN + [c_size_t] + LIST + LIST, Answer),
     "altairpeg_read": (LIST * 4, CardAnswer),
-    "altairpeg_write": (PLAN + LIST, Answer),
+    "altairpeg_write": (NIGHT + LIST + [Counts] + LIST, Answer),
     "altairpeg_price": ([c_size_t, c_size_t, Timings], PriceAnswer),
     "altairpeg_fewest_tracks": ([c_uint8], c_size_t),
 }
@@ -85,7 +87,20 @@ def opened(path: Path, told: Path) -> ctypes.CDLL:
         raise LibraryError(f"{told} gives a shared object that can't be loaded: {trouble}") from None
     except AttributeError:
         raise LibraryError(f"{told} is broken or not of Altairpeg's library: it has no {name}") from None
+    if not _takes_marks(library):
+        raise LibraryError(f"{told} is of an Altairpeg before 2.0.0, whose calls take no mark: run `rt staticlib altairpeg` anew")
     return library
+
+
+def _takes_marks(library: ctypes.CDLL) -> bool:
+    """Whether check refuses a closed night's code 0.
+
+    A library without marks has calls of the same names; it takes one count for another and answers for another night, or
+    writes where it should not. What it is asked here, it accepts.
+    """
+    one, zero = array("H", [1]), array("H", [0])
+    answer = library.altairpeg_check(one, 1, one, 1, zero, 1, CLOSED, Counts(tracks=1, room=1, steps=0))
+    return NAMES.get(answer.number) == "ZERO_CODE"
 
 
 def _of_archive(source: Path) -> ctypes.CDLL:

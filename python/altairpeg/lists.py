@@ -1,4 +1,4 @@
-"""Lists and numbers as the library takes them.
+"""Lists, numbers and marks as the library takes them.
 
 Python's whole numbers are wider than C's. ctypes would cut off what does not fit, and the library would answer for another
 night. So a number that does not fit goes over as a stand-in that does, of which document 01 says the same at that place:
@@ -9,7 +9,7 @@ night. So a number that does not fit goes over as a stand-in that does, of which
 - a count, 64 bits wide: as the largest, which is above each range (1);
 - seconds: what a double does not hold exactly as not-a-number (13).
 
-The order of the tests stays the library's own. What isn't a whole number at all raises `InputError`.
+The order of the tests stays the library's own. What isn't a whole number, or a mark, at all raises `InputError`.
 """
 
 from __future__ import annotations
@@ -23,12 +23,14 @@ from operator import index
 from typing import Any, SupportsFloat, SupportsIndex
 
 from .errors import InputError, shown
-from .nights import Numbers
+from .library import CLOSED, OPEN
+from .nights import Mark, Numbers
 
 LARGEST = 2**16 - 1
 LARGEST_COUNT = 2**64 - 1
 # No list of document 01 has as many items, so what follows behind them never decides.
 MOST = 2**16
+_MARKS = {Mark.OPEN: OPEN, Mark.CLOSED: CLOSED}
 # The formats of items that memoryview turns into Python's numbers.
 _READABLE = frozenset("bBhHiIlLqQnN?fd")
 
@@ -45,6 +47,13 @@ def count(name: str, given: SupportsIndex) -> int:
     """A count, or its stand-in."""
     number = whole(name, given)
     return number if 0 <= number <= LARGEST_COUNT else LARGEST_COUNT
+
+
+def mark(given: object) -> int:
+    """The number of a mark, from a `Mark` or its word. True or 1 is refused: neither says which of the two it means."""
+    if not isinstance(given, str) or given not in _MARKS:
+        raise InputError(f"mark is {shown(given)}, not Mark.OPEN, Mark.CLOSED, 'open' or 'closed'")
+    return _MARKS[given]  # type: ignore[index]  # a word finds its mark, which it equals
 
 
 def seconds(name: str, given: SupportsFloat | SupportsIndex) -> float:

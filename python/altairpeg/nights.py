@@ -2,7 +2,8 @@
 
 from __future__ import annotations
 
-from typing import Any, Iterator, NamedTuple, Protocol
+from enum import Enum
+from typing import Any, Iterator, Literal, NamedTuple, Protocol
 
 from .errors import InputError
 
@@ -17,13 +18,28 @@ class Numbers(Protocol):
     def __getitem__(self, place: Any, /) -> Any: ...
 
 
+class Mark(str, Enum):
+    """Whether the destination tracks are open from the first roll-in on, or closed until the first pull.
+
+    It is a string, so it equals its word and goes into JSON as that word.
+    """
+
+    OPEN = "open"
+    CLOSED = "closed"
+
+
 class Night(NamedTuple):
-    """The lengths of the outbound trains, the inbound order of the cars, the sorting tracks and the room on each."""
+    """The lengths of the outbound trains, the inbound order of the cars, the sorting tracks, the room on each, and the mark.
+
+    The mark, a `Mark` or its word, has no default: closed is the usual case in yards, and what was planned for open
+    destinations would send cars to busy tracks there.
+    """
 
     lengths: Numbers
     inbound: Numbers
     tracks: int
     room: int
+    mark: Mark | Literal["open", "closed"]
 
 
 class Plan(NamedTuple):

@@ -10,7 +10,7 @@ from typing import Any
 from .errors import shown
 
 # By the refusal's number: the list whose item A counts from 1.
-ITEMS = {2: "lengths", 3: "inbound", 7: "codes"}
+ITEMS = {2: "lengths", 3: "inbound", 7: "codes", 14: "codes"}
 # By the refusal's number and A: the list whose length it speaks of, and the number it speaks of.
 SIZES = {(1, 1): "inbound", (1, 2): "lengths", (4, 3): "codes"}
 VALUES = {

@@ -8,13 +8,14 @@ import sys
 import textwrap
 from typing import Any, Collection, Sequence
 
-from .files import CARD_HELP, headline, read_plan
+from .files import CARD_HELP, JSON_HELP, headline, read_plan
 from .output import write_out, write_whole
-from .story import FEW_TRAINS, Story, disorder, tell, trouble
+from .story import BARRED, FEW_TRAINS, Story, barrier, disorder, signed, tell, trouble
 from .svg import picture
 
 NARROWEST = 40
 WIDEST = 160
+ROLL_IN = "first roll-in:"
 
 
 def _cells(cars: Sequence[int], marked: Collection[int]) -> list[str]:
@@ -62,21 +63,26 @@ def _row(name: str, words: Sequence[str], width: int) -> list[str]:
 
 def _rows(story: Story, stage: int, width: int) -> list[str]:
     """A row for each sorting track and, where they are few, for each train; many trains stand side by side."""
-    yard, marked = story.yards[stage].tracks, _marked(story, stage)
     many = len(story.plan.night.lengths) > FEW_TRAINS
-    rows = range(story.plan.night.tracks if many else len(yard))
+    rows = range(story.plan.night.tracks if many else len(story.yards[stage].tracks))
     widest = max(len(story.name(track)) for track in rows)
-    lines = [line for track in rows for line in _row(story.name(track).ljust(widest), _cells(yard[track], marked), width)]
+    lines = [line for track in rows for line in _row(story.name(track).ljust(widest), _standing(story, stage, track), width)]
     return lines + _trains_reached(story, stage, width) if many else lines
+
+
+def _standing(story: Story, stage: int, track: int) -> list[str]:
+    """What stands on a track, in words; a destination that is barred says so."""
+    if story.bars(stage) and track >= story.plan.night.tracks:
+        return BARRED.split()
+    return _cells(story.yards[stage].tracks[track], _marked(story, stage))
 
 
 def _trains_reached(story: Story, stage: int, width: int) -> list[str]:
     """The trains that cars have just rolled to, side by side, and how many others there are."""
-    yard, marked = story.yards[stage].tracks, _marked(story, stage)
     reached = sorted({cut.track for cut in story.cuts(stage) if cut.track >= story.plan.night.tracks})
     left_out = len(story.plan.night.lengths) - len(reached)
-    others = [f"  {left_out} other trains {'as before' if stage else 'empty'}"] if left_out else []
-    return _flow([f"{story.name(track)}: {' '.join(_cells(yard[track], marked))}" for track in reached], width) + others
+    others = [f"  {story.left_out(stage, left_out)}"] if left_out else []
+    return _flow([f"{story.name(track)}: {' '.join(_standing(story, stage, track))}" for track in reached], width) + others
 
 
 def _marked(story: Story, stage: int) -> list[int]:
@@ -92,7 +98,8 @@ def _flow(cells: Sequence[str], width: int) -> list[str]:
 
 def _rolls(story: Story, stage: int, width: int) -> list[str]:
     """Where the cars roll, in the order in which they go over the hump: those that go to one track together."""
-    return _flow([f"{' '.join(map(str, cut.cars))} -> {story.name(cut.track)}" for cut in story.cuts(stage)], width)
+    marked = () if stage else story.stopped()
+    return _flow([f"{' '.join(_cells(cut.cars, marked))} -> {story.name(cut.track)}" for cut in story.cuts(stage)], width)
 
 
 def _counted(head: str, words: Sequence[str], width: int) -> str:
@@ -102,8 +109,20 @@ def _counted(head: str, words: Sequence[str], width: int) -> str:
 
 
 def _roll_in(story: Story, width: int) -> list[str]:
-    """The first roll-in."""
-    return [_counted("first roll-in:", _cells(story.plan.night.inbound, ()), width), *_rolls(story, 0, width)]
+    """The first roll-in: where the cars roll, and what is wrong with that."""
+    head = _counted(ROLL_IN, _cells(story.plan.night.inbound, story.stopped()), width)
+    return [head, *_rolls(story, 0, width), *_warning(barrier(story), width)]
+
+
+def _stop(story: Story, width: int) -> list[str]:
+    """The first roll-in where the story ends there, and what is wrong with it."""
+    stopped = story.stopped()
+    return _listed(ROLL_IN, _cells(story.plan.night.inbound, stopped), width) + _warning(barrier(story), width) if stopped else []
+
+
+def _warning(words: str, width: int) -> list[str]:
+    """What is wrong, set in; no line where all is well."""
+    return _prose(signed(words), width, "  ")
 
 
 def _pull(story: Story, step: int, width: int, in_full: bool) -> list[str]:
@@ -111,9 +130,9 @@ def _pull(story: Story, step: int, width: int, in_full: bool) -> list[str]:
     track, cars = step % story.plan.night.tracks, story.pulled(step)
     if not cars:
         return [f"step {step} finds track {track} empty"]
-    head, words, told = f"step {step} pulls track {track}:", _cells(cars, story.wrong(step)), trouble(story, step)
+    head, words = f"step {step} pulls track {track}:", _cells(cars, story.wrong(step))
     lines = _listed(head, words, width) if in_full else [_counted(head, words, width)]
-    return lines + (_prose(f"! {told}", width, "  ") if told else [])
+    return lines + _warning(trouble(story, step), width)
 
 
 def _step(story: Story, step: int, width: int) -> list[str]:
@@ -129,7 +148,7 @@ def _trains(story: Story, width: int) -> list[str]:
     marked = story.out_of_order()
     numbers = range(1, len(story.plan.night.lengths) + 1)
     lines = [line for number in numbers for line in _listed(f"train {number}:", _cells(story.train(number), marked), width)]
-    return lines + (_prose(f"! {disorder(story)}", width, "  ") if marked else [])
+    return lines + _warning(disorder(story) if marked else "", width)
 
 
 def _verdict(story: Story, width: int) -> list[str]:
@@ -148,7 +167,8 @@ def brief(story: Story, width: int = 80) -> str:
     """What each step pulls, and the trains as built."""
     passes = f" passes {story.verdict.passes}" if story.refusal is None else ""
     pulls = [_pull(story, step, width, True) for step in story.pulls]
-    return _text([_prose(headline(story.plan) + passes, width), *pulls, _trains(story, width), _verdict(story, width)], "\n")
+    head = _prose(headline(story.plan) + passes, width)
+    return _text([head, _stop(story, width), *pulls, _trains(story, width), _verdict(story, width)], "\n")
 
 
 def draw(story: Story, width: int = 80) -> str:
@@ -169,7 +189,7 @@ def _width() -> int:
 
 
 def run(given: argparse.Namespace) -> int:
-    """Draws the night of a card: 0 if its plan is accepted, 1 if it is refused."""
+    """Draws the night of a card or a JSON file: 0 if its plan is accepted, 1 if it is refused."""
     story = tell(read_plan(given.card))
     if given.svg is not None:
         write_whole(given.svg, picture(story).encode())
@@ -185,9 +205,11 @@ def register(commands: Any) -> None:
     parser = commands.add_parser(
         "show",
         allow_abbrev=False,
-        help="draw the yard of a night card, stage by stage",
-        description="Draws the yard of a night card, stage by stage, to the width of the terminal. A plan that check refuses for room, "
-        "an early pull or order is drawn as far as it goes, with the place where it fails marked; the exit status is then 1.",
+        help="draw the yard of a card or a JSON file, stage by stage",
+        description="Draws the yard of a night, stage by stage, to the width of the terminal. A plan that check refuses for room, an early "
+        "pull, order, or a zero code in a closed night is drawn as far as it goes, with the place where it fails marked; the exit "
+        "status is then 1.",
+        epilog=JSON_HELP,
     )
     parser.add_argument("card", metavar="CARD", help=CARD_HELP)
     how = parser.add_mutually_exclusive_group()

@@ -1,21 +1,26 @@
 """What becomes of a plan: the yard at each stage, as far as it goes, and what check says of it.
 
-The yard comes from the library's replay wherever that answers. It answers nothing for a plan that pulls a car early or
-overfills a track, so such a plan is replayed here, in the plain steps of document 01, up to the step that fails.
+The yard comes from the library's replay wherever that answers. It answers nothing for a plan that pulls a car early,
+overfills a track or sends a car to a barred destination, so such a plan is replayed here, in the plain steps of document 01,
+up to the step that fails. Where that is the first roll-in, there is no stage to tell of.
 """
 
 from __future__ import annotations
 
-from itertools import groupby
-from typing import Iterator, NamedTuple, Sequence
+from itertools import groupby, islice
+from typing import Collection, Iterator, NamedTuple
 
 from .calls import check, replay
-from .nights import Checked, Night, Plan
+from .nights import Checked, Mark, Plan
 from .refusal import Refusal
 
 OVERFILLED = 6
 EARLY = 8
 OUT_OF_ORDER = 9
+ZERO_CODE = 14
+
+# What is said of a closed night's destination tracks at stage 0.
+BARRED = "barred until the first pull"
 
 # Up to so many trains, a drawing shows them all at each stage; of more, only those that cars have just rolled to.
 FEW_TRAINS = 8
@@ -36,7 +41,7 @@ class Cut(NamedTuple):
 
 
 class Story(NamedTuple):
-    """A plan, its yard at each stage up to the step that fails, and what check says of it."""
+    """A plan, its yard at each stage up to the step that fails, none if that is the first roll-in, and what check says of it."""
 
     plan: Plan
     yards: list[Yard]
@@ -63,7 +68,9 @@ class Story(NamedTuple):
     def cuts(self, stage: int) -> list[Cut]:
         """The cars that rolled in last before a stage, in order, cut by cut."""
         cars = self.pulled(stage - 1) if stage else self.plan.night.inbound
-        track_of = {car: track for track, standing in enumerate(self.yards[stage].tracks) for car in standing}
+        # Where the first roll-in fails, the cuts are those that it would make.
+        yard = self.yards[stage] if self.yards else next(plain_yards(self.plan))
+        track_of = {car: track for track, standing in enumerate(yard.tracks) for car in standing}
         return [Cut(list(together), track) for track, together in groupby(cars, track_of.__getitem__)]
 
     def train(self, number: int) -> list[int]:
@@ -74,6 +81,23 @@ class Story(NamedTuple):
         """A track's name: a sorting track by its number, a destination by its train."""
         tracks = self.plan.night.tracks
         return f"track {track}" if track < tracks else f"train {track - tracks + 1}"
+
+    def bars(self, stage: int) -> bool:
+        """Whether the destination tracks are barred at a stage: in a closed night, before the first pull."""
+        return stage == 0 and self.plan.night.mark == Mark.CLOSED
+
+    def left_out(self, stage: int, trains: int) -> str:
+        """What is said of so many trains that a stage does not show."""
+        if self.bars(stage):
+            return f"{trains} trains {BARRED}"
+        first = stage == 0 or self.bars(stage - 1)
+        return f"{trains} other trains {'empty' if first else 'as before'}"
+
+    def stopped(self) -> list[int]:
+        """The cars that the first roll-in would send to a barred destination, in its order."""
+        if self.refusal is None or self.refusal.number != ZERO_CODE:
+            return []
+        return [car for car in self.plan.night.inbound if self.plan.codes[car - 1] == 0]
 
     def wrong(self, step: int) -> list[int]:
         """The cars that a step should not find where it does: those taken early, or those beyond the track's room."""
@@ -141,7 +165,7 @@ def _verdict(plan: Plan) -> Checked | Refusal:
     try:
         return check(plan)
     except Refusal as refusal:
-        if refusal.number not in (OVERFILLED, EARLY, OUT_OF_ORDER):
+        if refusal.number not in (OVERFILLED, EARLY, OUT_OF_ORDER, ZERO_CODE):
             raise
         return refusal
 
@@ -149,19 +173,26 @@ def _verdict(plan: Plan) -> Checked | Refusal:
 def _in_lists(plan: Plan) -> Plan:
     """The same plan in plain lists: arrays of any kind may be given."""
     lengths, inbound, codes = ([int(number) for number in numbers] for numbers in (plan.night.lengths, plan.night.inbound, plan.codes))
-    return Plan(Night(lengths, inbound, plan.night.tracks, plan.night.room), plan.steps, codes)
+    return Plan(plan.night._replace(lengths=lengths, inbound=inbound), plan.steps, codes)
 
 
 def tell(plan: Plan) -> Story:
     """The story of a plan. A plan that is no plan of a night (refusals 1, 2, 3, 4, 7) has none: its `Refusal` is raised."""
     verdict = _verdict(plan)
     plan = _in_lists(plan)
-    failing = {OVERFILLED: "a", EARLY: "b"}.get(getattr(verdict, "number", 0))
-    if failing:
-        yards = list(plain_yards(plan))[: getattr(verdict, failing) + 1]
-    else:
+    reached = _stages_reached(verdict)
+    if reached is None:
         yards = [_library_yard(plan, stage) for stage in range(plan.steps + 1)]
+    else:
+        yards = list(islice(plain_yards(plan), reached))
     return Story(plan, yards, verdict)
+
+
+def _stages_reached(verdict: Checked | Refusal) -> int | None:
+    """How many stages a plan reaches that the library does not replay; None for one that it does."""
+    if not isinstance(verdict, Refusal) or verdict.number == OUT_OF_ORDER:
+        return None
+    return {OVERFILLED: verdict.a + 1, EARLY: verdict.b + 1, ZERO_CODE: 0}[verdict.number]
 
 
 def trouble(story: Story, step: int) -> str:
@@ -174,11 +205,26 @@ def trouble(story: Story, step: int) -> str:
     return f"overfilled: {len(story.pulled(step))} cars, and track {step % story.plan.night.tracks} has room for {story.plan.night.room}"
 
 
-def _some(cars: Sequence[int]) -> str:
-    """Cars by their numbers, the first few of many."""
-    named = " ".join(map(str, sorted(cars)[:8]))
-    more = f" and {len(cars) - 8} more" if len(cars) > 8 else ""
-    return f"{'car' if len(cars) == 1 else 'cars'} {named}{more}"
+def barrier(story: Story) -> str:
+    """What is wrong with the first roll-in, in words; nothing where all is well."""
+    cars = story.stopped()
+    if not cars:
+        return ""
+    destinations = _destinations(story.plan)
+    trains = {destinations[car - 1] - story.plan.night.tracks + 1 for car in cars}
+    return f"{_some(cars)} would roll to {_some(trains, 'train')}, {BARRED}"
+
+
+def signed(words: str) -> str:
+    """What is wrong, behind its sign; nothing where all is well."""
+    return f"! {words}" if words else ""
+
+
+def _some(numbers: Collection[int], name: str = "car") -> str:
+    """Cars or trains by their numbers, the first few of many."""
+    named = " ".join(map(str, sorted(numbers)[:8]))
+    more = f" and {len(numbers) - 8} more" if len(numbers) > 8 else ""
+    return f"{name if len(numbers) == 1 else name + 's'} {named}{more}"
 
 
 def disorder(story: Story) -> str:

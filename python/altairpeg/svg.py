@@ -11,7 +11,7 @@ from xml.sax.saxutils import escape
 
 from .colours import INK, PALE, PULLED, WRONG, band, fill, number_colour
 from .files import headline
-from .story import FEW_TRAINS, Story, disorder, trouble
+from .story import BARRED, FEW_TRAINS, Story, barrier, disorder, signed, trouble
 
 MARGIN = 20
 LABEL = 96
@@ -71,6 +71,10 @@ class Sheet:
         for line in self.wrapped(words, size, x):
             self.y += size + 6
             self.text(x, self.y, line, f'font-size="{size}"{look and " " + look}')
+
+    def warning(self, words: str, x: int = MARGIN) -> None:
+        """What is wrong."""
+        self.paragraph(words, 13, f'fill="{WRONG}" font-weight="bold"', x)
 
     def heading(self, words: str) -> None:
         """The heading of a part, set off from the part above it."""
@@ -141,13 +145,14 @@ def _label(sheet: Sheet, x: int, name: str, count: str) -> None:
 
 
 def _inbound(sheet: Sheet) -> None:
-    """The first roll-in: the cars as they come, and where each cut rolls."""
-    cars = sheet.story.plan.night.inbound
+    """The first roll-in: the cars as they come, where each cut rolls, and what is wrong with that."""
+    cars, x = sheet.story.plan.night.inbound, MARGIN + LABEL
     sheet.heading(f"First roll-in, {_counted(len(cars), 'car')} over the hump")
     _label(sheet, MARGIN, "inbound", _counted(len(cars), "car"))
-    _cars(sheet, MARGIN + LABEL, cars, NAMED)
-    _targets(sheet, MARGIN + LABEL, 0, NAMED)
+    _cars(sheet, x, cars, NAMED, wrong=sheet.story.stopped())
+    _targets(sheet, x, 0, NAMED)
     sheet.y += _depth(sheet, len(cars), NAMED)
+    sheet.warning(signed(barrier(sheet.story)), x)
 
 
 def _sorting_track(sheet: Sheet, stage: int, track: int, moved: Collection[int]) -> None:
@@ -162,8 +167,7 @@ def _sorting_track(sheet: Sheet, stage: int, track: int, moved: Collection[int])
 def _pulled_track(sheet: Sheet, stage: int, moved: Collection[int]) -> None:
     """The track that the next step pulls: its cars, and below them where they roll, or what is wrong with them."""
     story, x = sheet.story, MARGIN + LABEL
-    cars, told = story.pulled(stage), trouble(story, stage)
-    words = f"! {told}" if told else ""
+    cars, words = story.pulled(stage), signed(trouble(story, stage))
     below = BARE if story.fails_at(stage) or not cars else NAMED
     depth = max(_depth(sheet, len(cars), below), LOWEST)
     sheet.rect(MARGIN - 6, sheet.y - 4, sheet.width - 2 * MARGIN + 12, depth + 2 + 19 * len(sheet.wrapped(words, 13, x)), f'fill="{PULLED}"')
@@ -172,7 +176,7 @@ def _pulled_track(sheet: Sheet, stage: int, moved: Collection[int]) -> None:
     if not story.fails_at(stage):
         _targets(sheet, x, stage + 1, below)
     sheet.y += depth - 8
-    sheet.paragraph(words, 13, f'fill="{WRONG}" font-weight="bold"', x)
+    sheet.warning(words, x)
     sheet.y += 12
 
 
@@ -196,16 +200,27 @@ def _trains(sheet: Sheet, stage: int, moved: Collection[int]) -> None:
         row = shown[first : first + beside]
         sheet.y += 2 + max([_train(sheet, MARGIN + column * across, stage, train, moved) for column, train in enumerate(row)])
     if len(shown) < len(lengths):
-        sheet.paragraph(f"{len(lengths) - len(shown)} other trains {'as before' if stage else 'empty'}", 12, 'fill="#555"')
+        sheet.paragraph(story.left_out(stage, len(lengths) - len(shown)), 12, 'fill="#555"')
 
 
 def _train(sheet: Sheet, x: int, stage: int, train: int, moved: Collection[int]) -> int:
     """The destination track of a train; the height of its row is given back."""
     story = sheet.story
     night, cars = story.plan.night, story.yards[stage].tracks[story.plan.night.tracks + train - 1]
+    if story.bars(stage):
+        _barred(sheet, x + LABEL)
     _label(sheet, x, f"train {train}", f"{len(cars)} of {night.lengths[train - 1]}")
     _cars(sheet, x + LABEL, cars, BARE, moved, story.out_of_order() if stage == story.plan.steps else ())
     return max(_depth(sheet, len(cars), BARE), LOWEST)
+
+
+def _barred(sheet: Sheet, x: int) -> None:
+    """A destination track that serves other work: a box of bars, as wide as the longest train, where the word has room."""
+    height, middle = sheet.scale.height, sheet.y + sheet.scale.height // 2
+    width = min(max(sheet.story.plan.night.lengths), sheet.scale.line) * sheet.scale.width - 2
+    sheet.drawn.append(f'<path d="M{x} {middle}h{width}" stroke="#ccc" stroke-width="{height}" stroke-dasharray="2 6"/>')
+    sheet.rect(x, sheet.y, width, height, 'fill="none" stroke="#777"')
+    sheet.text(x + width // 2, middle + 4, "barred", 'text-anchor="middle" font-size="12"')
 
 
 def _stage(sheet: Sheet, stage: int) -> None:
@@ -244,12 +259,14 @@ def _legend(sheet: Sheet) -> None:
     """The colours, and what the signs mean."""
     sheet.y += 12
     _colours(sheet)
-    names = "" if sheet.scale.in_full else " (S0 is track 0, T1 is train 1)"
+    story, names = sheet.story, "" if sheet.scale.in_full else " (S0 is track 0, T1 is train 1)"
+    wrong = f"would roll to a track that is {BARRED}" if story.stopped() else "stands wrong"
     signs = [
         "The front of each track is on the left; grey is its room.",
         f"Yellow: the track that the next step pulls, and below its cars where they roll{names}.",
         "Thick frame: has just rolled in.",
-        "Red frame and !: stands wrong." if sheet.story.refusal else "",
+        f"Bars: a destination track, {BARRED}." if story.yards and story.bars(0) and _shown_trains(story, 0) else "",
+        f"Red frame and !: {wrong}." if story.refusal else "",
     ]
     sheet.paragraph(" ".join(filter(None, signs)), 12, 'fill="#555"')
 
@@ -273,7 +290,7 @@ def _verdict(sheet: Sheet) -> None:
         return
     sheet.heading(f"Check: {story.refusal}")
     if story.out_of_order():
-        sheet.paragraph(f"! {disorder(story)}", 13, f'fill="{WRONG}" font-weight="bold"')
+        sheet.warning(signed(disorder(story)))
 
 
 def picture(story: Story) -> str:

@@ -1,22 +1,39 @@
 """What the tests of drawings share: plans to draw, and the command that draws them."""
 
+import tempfile
+
 from altairpeg import Night, Plan, derive, write_card
 
-from support import CODES, DISORDERED, altairpeg, n
+from support import CLOSED, CLOSED_CODES, CODES, DISORDERED, OPEN, altairpeg, as_json, n
 
-# Plans that check refuses: with 6, step 0, 3 cars; with 8, car 4, step 0; with 9, car 3.
+# Plans that check refuses: with 6, step 0, 3 cars; with 8, car 4, step 0; with 9, car 3; with 14, car 2.
 OVERFILLED = Plan(n(room=2), 2, CODES)
 EARLY = Plan(n(room=3), 3, [0, 0, 1, 4, 2, 3])
 OUT_OF_ORDER = Plan(n(room=3), 2, DISORDERED)
+BARRED = Plan(n(room=4, mark=CLOSED), 3, [1, 0, 2, 2, 3, 5])
+# The plan of night N where it is closed; and nine trains of one car, of which step 0 reaches one, step 1 one, and step 2 the rest.
+SHUT = Plan(n(room=4, mark=CLOSED), 3, CLOSED_CODES)
+NINE = Plan(Night([1] * 9, list(range(1, 10)), 3, 9, CLOSED), 3, [1, 2] + [4] * 7)
 
 
-def many(trains, length, tracks=4):
+def many(trains, length, tracks=4, mark=OPEN):
     """A derived plan of many cars, those of each train far apart in the inbound order."""
     cars = range(1, trains * length + 1)
-    return derive(Night([length] * trains, sorted(cars, key=lambda car: car * 37 % 101), tracks, 512)).plan
+    return derive(Night([length] * trains, sorted(cars, key=lambda car: car * 37 % 101), tracks, 512, mark)).plan
+
+
+def zeroed(plan):
+    """A plan with code 0 for every fifth car, which check refuses if its night is closed."""
+    return plan._replace(codes=[code if car % 5 else 0 for car, code in enumerate(plan.codes, 1)])
 
 
 def show(given, *words, columns=80, **options):
-    """Runs `show` on a card or a plan, which comes from standard input."""
+    """Runs `show` on a card or a plan: a closed night comes from a JSON file, all else from standard input."""
+    options["set"] = {"COLUMNS": str(columns)}
+    if isinstance(given, Plan) and given.night.mark == CLOSED:
+        with tempfile.NamedTemporaryFile(suffix=".json") as file:
+            file.write(as_json(given))
+            file.flush()
+            return altairpeg("show", *words, file.name, **options)
     card = write_card(given) if isinstance(given, Plan) else given
-    return altairpeg("show", *words, "-", input=card, set={"COLUMNS": str(columns)}, **options)
+    return altairpeg("show", *words, "-", input=card, **options)

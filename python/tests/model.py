@@ -33,10 +33,12 @@ def night_tests(night):
 
 
 def code_tests(night, steps, codes):
-    """Tests of 4 and 7."""
+    """Tests of 4, 7 and 14."""
     yield len(codes) == len(night.inbound), (4, 3, 0)
     for car, code in enumerate(codes, 1):
         yield 0 <= code < 2**steps, (7, car, 0)
+    for car, code in enumerate(codes, 1):
+        yield code != 0 or night.mark == "open", (14, car, 0)
 
 
 def derive(night, limit):
@@ -45,7 +47,7 @@ def derive(night, limit):
 
 
 def plan(night, steps, codes, stage=0):
-    """What check, replay and the writer test before the plan is replayed."""
+    """What check and replay test before the plan is replayed, and of an open night all that the writer tests."""
     return first(counts(night, steps, stage)) or first(night_tests(night)) or first(code_tests(night, steps, codes))
 
 

@@ -1,5 +1,6 @@
-"""What the tests share: night N and its card, a scratch folder, and the command line as a process of its own."""
+"""What the tests share: night N, open and closed, and its card, a scratch folder, and the command line as a process of its own."""
 
+import json
 import os
 import subprocess
 import sys
@@ -7,25 +8,39 @@ import tempfile
 import unittest
 from pathlib import Path
 
-from altairpeg import Night, Refusal
+from altairpeg import Mark, Night, Plan, Refusal
 
+OPEN, CLOSED = Mark.OPEN, Mark.CLOSED
 PYTHON = Path(__file__).resolve().parent.parent
 INBOUND = [3, 6, 1, 5, 2, 4]
 CODES = [0, 0, 1, 1, 2, 3]
+# The codes of night N where it is closed: three steps.
+CLOSED_CODES = [1, 1, 2, 2, 3, 5]
 CARD = bytes.fromhex("12200C060203006030020280 40202D80")
 # The plan of case 6, which check refuses with 9, car 3; and a card that the reader refuses with 10, 16 bytes.
 DISORDERED = [0, 0, 0, 1, 2, 3]
 SHORT = CARD[:15]
 
 
-def n(tracks=2, room=512):
-    """Night N, one train."""
-    return Night([6], INBOUND, tracks, room)
+def n(tracks=2, room=512, mark=OPEN):
+    """Night N, one train; open as document 01 has it."""
+    return Night([6], INBOUND, tracks, room, mark)
 
 
-def turned(cars, tracks):
+def one_car(mark):
+    """A night of one car."""
+    return Night([1], [1], 2, 512, mark)
+
+
+def turned(cars, tracks, mark=OPEN):
     """One train of cars that come in the wrong way round."""
-    return Night([cars], list(range(cars, 0, -1)), tracks, 512)
+    return Night([cars], list(range(cars, 0, -1)), tracks, 512, mark)
+
+
+def as_json(plan):
+    """A plan, or a night alone, as the bytes of a JSON file."""
+    named = {**plan.night._asdict(), "steps": plan.steps, "codes": plan.codes} if isinstance(plan, Plan) else plan._asdict()
+    return json.dumps(named).encode()
 
 
 def told(refusal):

@@ -8,7 +8,7 @@ import subprocess
 import unittest
 
 from altairpeg import Plan, read_card_file, write_card
-from support import CARD, CODES, DISORDERED, SHORT, Scratch, altairpeg, n
+from support import CARD, CLOSED, CODES, DISORDERED, SHORT, Scratch, altairpeg, as_json, n
 
 NAMES = "card,number,a,b,steps,tracks,room,cars,trains,passes,fullest_pull,words\n"
 FIRST = ",0,0,0,2,2,3,6,1,11,3,done\n"
@@ -29,6 +29,7 @@ class Batch(Scratch):
         self.card("b.card")
         self.card("a, 1.card", WRONG)
         self.card("notes.txt", b"")
+        self.card("closed.json", as_json(n(mark=CLOSED)))
         (self.cards / "folder.card").mkdir()
         self.ran(altairpeg("batch", self.cards), 0, f'{NAMES}"a, 1.card"{FIRST}b.card{FIRST}')
 

@@ -7,12 +7,20 @@ import sys
 import unittest
 
 import altairpeg as package
-from altairpeg import Plan, write_card
-from support import CARD, CODES, DISORDERED, INBOUND, PYTHON, SHORT, Scratch, altairpeg, n, python
+from altairpeg import Plan, derive, write_card
+from support import CARD, CLOSED, CLOSED_CODES, CODES, DISORDERED, INBOUND, PYTHON, SHORT, Scratch, altairpeg, as_json, n, python
 
-NIGHT = ("--lengths", "6", "--inbound", "3,6,1,5,2,4", "--tracks", "2", "--room", "3")
-FIRST = {"lengths": [6], "inbound": INBOUND, "tracks": 2, "room": 3}
+NIGHT = ("--lengths", "6", "--inbound", "3,6,1,5,2,4", "--mark", "open", "--tracks", "2", "--room", "3")
+FIRST = {"lengths": [6], "inbound": INBOUND, "tracks": 2, "room": 3, "mark": "open"}
 HEAD = "steps 2 tracks 2 room 3 cars 6 trains 1"
+CLOSED_HEAD = "steps 3 tracks 2 room 4 cars 6 trains 1 closed"
+CLOSED_NIGHT = n(room=4, mark=CLOSED)
+CLOSED_PLAN = Plan(CLOSED_NIGHT, 3, CLOSED_CODES)
+NO_CARD = "altairpeg: a closed night goes on no card yet: a card of edition 1 means an open one\n"
+NO_MARK = "altairpeg: mark is missing: a night must say whether it is open or closed\n"
+TIMINGS = ("--pull", "1.5", "--push", "0.25")
+# The commands that take a plan.
+OF_PLANS = (("check",), ("show",), ("price", *TIMINGS))
 SHORT_LINE = "refused 10 16 0: card too short (16 bytes needed, as far as known)\n"
 
 
@@ -23,7 +31,7 @@ class Cards(Scratch):
         self.assertEqual(new.read_bytes(), CARD)
 
     def test_blanks_and_commas(self):
-        run = altairpeg("card", "--lengths", "6", "--inbound", "3", "6,1", "5 2", "4", "--tracks", "2", "--room", "3")
+        run = altairpeg("card", "--lengths", "6", "--inbound", "3", "6,1", "5 2", "4", *NIGHT[4:])
         self.assertEqual((run.stdout, run.stderr, run.returncode), (CARD, b"", 0))
 
     def test_a_plan_of_your_own(self):
@@ -35,6 +43,15 @@ class Cards(Scratch):
             text = json.dumps(given).encode()
             for run in (altairpeg("card", self.file("night.json", text)), altairpeg("card", "-", input=text)):
                 self.assertEqual((run.stdout, run.stderr, run.returncode), (CARD, b"", 0))
+
+    def test_the_mark(self):
+        new = self.folder / "new.card"
+        unmarked = [word for word in NIGHT if word not in ("--mark", "open")]
+        self.ran(altairpeg("card", *unmarked, "-o", new), 2, "", NO_MARK)
+        self.ran(altairpeg("card", *unmarked, "--mark", "closed", "-o", new), 2, "", NO_CARD)
+        self.ran(altairpeg("card", *unmarked, "--mark", "closed", "--limit", "0", "-o", new), 2, "", NO_CARD)
+        self.ran(altairpeg("card", self.file("closed.json", as_json(CLOSED_PLAN)), "-o", new), 2, "", NO_CARD)
+        self.assertFalse(new.exists())
 
     def test_refused(self):
         self.ran(altairpeg("card", *NIGHT, "--limit", "1"), 1, "", "refused 5 2 0: fewest steps above the limit (fewest steps 2)\n")
@@ -48,6 +65,7 @@ class Cards(Scratch):
         for given in (
             [], NIGHT[:-2], [*NIGHT, "--steps", "2"], [*NIGHT, "--codes", "0"], [*NIGHT, night], [night, "--room", "3"],
             [*NIGHT, "--inbound", "a"], [*NIGHT, "--unknown"], [*NIGHT, "--limit", "1", "--steps", "2", "--codes", "0"],
+            [*NIGHT, "--mark", "shut"], [*NIGHT, "-o", self.folder / "new.json"],
             [*NIGHT, "-o", ""], [*NIGHT, "-o", self.folder], [*NIGHT, "-o", self.folder / "missing" / "new.card"],
             [self.folder / "missing.json"], [self.folder],
         ):
@@ -58,7 +76,8 @@ class Cards(Scratch):
         deep = b"[" * 100_000
         for text in (b"", b"[]", b"7", b"{", b"\xff\xff", deep, b'{"lengths": [6]}', b"1" * 5000):
             self.wrong(altairpeg("card", "-", input=text))
-        for name, value in {"tracks": 2.0, "room": None, "inbound": "361524", "lengths": 6, "steps": 2, "track": 2}.items():
+        wrong = {"tracks": 2.0, "room": None, "inbound": "361524", "lengths": 6, "steps": 2, "codes": CODES, "track": 2, "mark": "shut"}
+        for name, value in wrong.items():
             self.wrong(altairpeg("card", "-", input=json.dumps({**FIRST, name: value}).encode()))
 
     def wrong(self, run):
@@ -88,16 +107,14 @@ class OneCard(Scratch):
         self.ran(altairpeg("check", disordered), 1, "", "refused 9 3 0: trains out of order (car 3)\n")
 
     def test_price(self):
-        timings = ("--pull", "1.5", "--push", "0.25")
-        self.ran(altairpeg("price", self.card, *timings), 0, "steps 2 passes 11 price 5.75\n")
-        self.ran(altairpeg("price", "--steps", "2", "--passes", "11", *timings), 0, "steps 2 passes 11 price 5.75\n")
+        self.ran(altairpeg("price", self.card, *TIMINGS), 0, "steps 2 passes 11 price 5.75\n")
+        self.ran(altairpeg("price", "--steps", "2", "--passes", "11", *TIMINGS), 0, "steps 2 passes 11 price 5.75\n")
         almost = "0.06250000000000000000000000000001"
         run = altairpeg("price", self.card, "--pull", "1.5", "--push", almost)
         self.ran(run, 1, "", "refused 13 2 0: a timing not allowed (push): push is Decimal('0.06...000000000001')\n")
 
     def test_price_of_what(self):
-        timings = ("--pull", "1.5", "--push", "0.25")
-        for given in ([self.card], timings, [self.card, *timings, "--steps", "2"], ["--steps", "2", *timings], [self.card, "--pull", "x"]):
+        for given in ([self.card], TIMINGS, [self.card, *TIMINGS, "--steps", "2"], ["--steps", "2", *TIMINGS], [self.card, "--pull", "x"]):
             self.assertEqual(altairpeg("price", *given).returncode, 2)
 
     def test_refused_cards(self):
@@ -126,6 +143,89 @@ class OneCard(Scratch):
         name = os.fsencode(self.folder) + b"/\xff\n.card"
         run = altairpeg("card", *NIGHT, "-o", os.fsdecode(name))
         self.assertEqual((run.stdout, run.returncode), (name + f": 16 bytes, {HEAD}\n".encode(), 0), run.stderr)
+
+
+class JsonFiles(Scratch):
+    """Nights and plans in JSON files, which keep the mark that no card has."""
+
+    def setUp(self):
+        super().setUp()
+        self.night = self.file("night.json", as_json(CLOSED_NIGHT))
+        self.plan = self.file("plan.json", as_json(CLOSED_PLAN))
+        self.new = self.folder / "new.json"
+
+    def named(self, **more):
+        """A file with the closed night, and more or other names."""
+        return self.file("given.json", json.dumps({**CLOSED_NIGHT._asdict(), **more}).encode())
+
+    def test_derive(self):
+        lines = f"{CLOSED_HEAD} passes 14\ncodes 1 1 2 2 3 5\n"
+        for given in (self.night, self.plan, self.named(codes=[9], steps=None), self.named(codes="none")):
+            self.ran(altairpeg("derive", given, "-o", self.new), 0, lines)
+            self.assertEqual(json.loads(self.new.read_bytes()), json.loads(as_json(CLOSED_PLAN)))
+            self.new.unlink()
+        self.ran(altairpeg("derive", self.night, "--limit", "2"), 1, "", "refused 5 3 0: fewest steps above the limit (fewest steps 3)\n")
+
+    def test_derive_an_open_night(self):
+        night, lines = self.named(mark="open"), "steps 2 tracks 2 room 4 cars 6 trains 1 passes 11\ncodes 0 0 1 1 2 3\n"
+        card = write_card(derive(n(room=4)).plan)
+        self.ran(altairpeg("derive", night, "-o", self.new), 0, lines)
+        self.assertEqual(json.loads(self.new.read_bytes()), json.loads(as_json(Plan(n(room=4), 2, CODES))))
+        self.assertEqual(altairpeg("derive", self.new, "-o", "-").stdout, card)
+        self.assertEqual(altairpeg("card", self.new).stdout, card)
+        self.ran(altairpeg("derive", self.file("a.card", card), "-o", self.new), 0, lines)
+        self.ran(altairpeg("check", self.new), 0, "steps 2 tracks 2 room 4 cars 6 trains 1 passes 11 fullest pull 3\n")
+
+    def test_a_closed_night_goes_on_no_card(self):
+        for limit in ("8", "0"):
+            for name in (self.folder / "new.card", "-"):
+                self.ran(altairpeg("derive", self.night, "--limit", limit, "-o", name), 2, "", NO_CARD)
+        self.assertEqual(sorted(file.name for file in self.folder.iterdir()), ["night.json", "plan.json"])
+
+    def test_a_refusal_leaves_the_old_file(self):
+        self.new.write_bytes(b"old")
+        self.assertEqual(altairpeg("derive", self.night, "--limit", "2", "-o", self.new).returncode, 1)
+        self.assertEqual(self.new.read_bytes(), b"old")
+
+    def test_check_and_price(self):
+        self.ran(altairpeg("check", self.plan), 0, f"{CLOSED_HEAD} passes 14 fullest pull 4\n")
+        self.ran(altairpeg("price", self.plan, *TIMINGS), 0, "steps 3 passes 14 price 8.0\n")
+
+    def test_refused(self):
+        zero, line = self.named(steps=2, codes=CODES), "refused 14 1 0: a zero code in a closed night (car 1): codes[0] is 0\n"
+        for command in (("check",), ("price", *TIMINGS)):
+            self.ran(altairpeg(*command, zero), 1, "", line)
+        line = "steps 2 tracks 2 room 4 cars 6 trains 1 passes 11 fullest pull 3\n"
+        self.ran(altairpeg("check", self.named(steps=2, codes=CODES, mark="open")), 0, line)
+
+    def test_a_night_is_no_plan(self):
+        line = f"altairpeg: {self.night} has a night and no plan: altairpeg derive, with -o PLAN.json, adds steps and codes\n"
+        for command in OF_PLANS:
+            self.ran(altairpeg(*command, self.night), 2, "", line)
+            self.ran(altairpeg(*command, self.named(steps=3)), 2, "", "altairpeg: codes is missing: a plan has both steps and codes\n")
+
+    def test_the_mark_must_be_said(self):
+        named = {"lengths": [6], "inbound": INBOUND, "tracks": 2, "room": 3, "steps": 2, "codes": CODES}
+        unmarked = self.file("unmarked.json", json.dumps(named).encode())
+        for command in (("derive",), ("card",), *OF_PLANS):
+            self.ran(altairpeg(*command, unmarked), 2, "", NO_MARK)
+            for mark in (True, 1, None, "shut"):
+                said = f"altairpeg: mark is {mark!r}, not Mark.OPEN, Mark.CLOSED, 'open' or 'closed'\n"
+                self.ran(altairpeg(*command, self.named(mark=mark, steps=3, codes=CLOSED_CODES)), 2, "", said)
+
+    def test_what_is_no_json(self):
+        for command in (("derive",), *OF_PLANS):
+            run = altairpeg(*command, self.file("card.json", CARD))
+            self.assertEqual((run.stdout, run.returncode), (b"", 2))
+            self.assertIn(b"card.json is not JSON: ", run.stderr)
+            missing = self.folder / "missing.json"
+            self.ran(altairpeg(*command, missing), 2, "", f"altairpeg: {missing}: No such file or directory\n")
+            self.ran(altairpeg(*command, self.named(track=2)), 2, "", (
+                "altairpeg: 'track' is none of lengths, inbound, tracks, room, mark, steps, codes\n"
+            ))
+
+    def test_standard_input_is_a_card(self):
+        self.ran(altairpeg("check", "-", input=as_json(CLOSED_PLAN)), 1, "", "refused 11 7 0: card edition not 1 (edition 7)\n")
 
 
 class Ends(Scratch):

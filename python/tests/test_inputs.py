@@ -2,6 +2,7 @@
 
 import ctypes
 import inspect
+import json
 import math
 import pickle
 import unittest
@@ -9,11 +10,14 @@ from array import array
 from collections import deque
 from decimal import Decimal
 from fractions import Fraction
+from types import SimpleNamespace
+from unittest import mock
 
 import altairpeg
-from altairpeg import AltairpegError, Derived, FileError, InputError, LibraryError, Night, Plan, Refusal
+from altairpeg import AltairpegError, Derived, FileError, InputError, LibraryError, Mark, Night, Plan, Refusal
 from altairpeg import check, derive, fewest_tracks, price, read_card, read_card_file, replay, write_card
-from support import CARD, CODES, INBOUND, SHORT, Scratch, n, skipped
+from altairpeg.library import CardAnswer
+from support import CARD, CLOSED, CLOSED_CODES, CODES, INBOUND, OPEN, SHORT, Scratch, n, skipped
 
 try:
     import numpy
@@ -78,11 +82,11 @@ class Lists(Scratch):
     def test_every_form(self):
         for form, inbound in FORMS.items():
             with self.subTest(form):
-                self.assertEqual(derive(Night([6], inbound, 2, 3)), DERIVED)
+                self.assertEqual(derive(Night([6], inbound, 2, 3, OPEN)), DERIVED)
 
     def test_codes_and_lengths_in_every_form(self):
         for codes in (tuple(CODES), bytes(CODES), array("H", CODES), spread(CODES), memoryview(array("l", CODES))):
-            self.assertEqual(check(Plan(Night(range(6, 7), INBOUND, 2, 3), 2, codes)), (11, 3))
+            self.assertEqual(check(Plan(Night(range(6, 7), INBOUND, 2, 3, OPEN), 2, codes)), (11, 3))
 
     def test_what_is_no_list(self):
         for form, given in NOT_LISTS.items():
@@ -100,22 +104,22 @@ class Lists(Scratch):
     def calls(self, given):
         """Calls with what is given in the place of each list."""
         return {
-            "lengths": lambda: derive(Night(given, INBOUND, 2, 3)),
-            "inbound": lambda: derive(Night([6], given, 2, 3)),
+            "lengths": lambda: derive(Night(given, INBOUND, 2, 3, OPEN)),
+            "inbound": lambda: derive(Night([6], given, 2, 3, OPEN)),
             "codes": lambda: check(Plan(n(), 2, given)),
         }
 
     def test_the_message_names_the_place(self):
-        refusal = self.refused(3, 4, 0, derive, Night([6], [3, 6, 1, -1, 2, 4], 2, 3))
+        refusal = self.refused(3, 4, 0, derive, Night([6], [3, 6, 1, -1, 2, 4], 2, 3, OPEN))
         self.assertEqual(str(refusal), "refused 3 4 0: inbound list not each car once (place 4, out of range): inbound[3] is -1")
-        refusal = self.refused(3, 5, 2, derive, Night([6], [3, 6, 1, 5, 6, 4], 2, 3))
+        refusal = self.refused(3, 5, 2, derive, Night([6], [3, 6, 1, 5, 6, 4], 2, 3, OPEN))
         self.assertEqual(refusal.place, "inbound[1] and inbound[4] are both 6")
         # Numbers too large for C are one stand-in there, and still out of range, not met before.
-        self.refused(3, 2, 0, derive, Night([3], [1, 70000, 70001], 2, 3))
-        refusal = self.refused(3, 1, 0, derive, Night([6], [10**5000, 6, 1, 5, 2, 4], 2, 3))
+        self.refused(3, 2, 0, derive, Night([3], [1, 70000, 70001], 2, 3, OPEN))
+        refusal = self.refused(3, 1, 0, derive, Night([6], [10**5000, 6, 1, 5, 2, 4], 2, 3, OPEN))
         self.assertEqual(refusal.place, "inbound[0] is a number of 16610 bits")
-        self.assertEqual(self.refused(2, 2, 0, derive, Night([7, -1], INBOUND, 2, 3)).place, "lengths[1] is -1")
-        self.assertEqual(self.refused(2, 0, 0, derive, Night([7], INBOUND, 2, 3)).place, "sum(lengths) is 7, len(inbound) is 6")
+        self.assertEqual(self.refused(2, 2, 0, derive, Night([7, -1], INBOUND, 2, 3, OPEN)).place, "lengths[1] is -1")
+        self.assertEqual(self.refused(2, 0, 0, derive, Night([7], INBOUND, 2, 3, OPEN)).place, "sum(lengths) is 7, len(inbound) is 6")
         self.assertEqual(self.refused(7, 6, 0, check, Plan(n(), 2, [0, 0, 1, 1, 2, 4])).place, "codes[5] is 4")
         self.assertEqual(self.refused(4, 3, 0, check, Plan(n(), 2, [0])).place, "len(codes) is 1")
         self.assertEqual(self.refused(1, 5, 0, derive, n(), -1).place, "limit is -1")
@@ -125,16 +129,16 @@ class Lists(Scratch):
 
     def test_long_lists(self):
         for inbound in ([], [1] * 70000, [-1] * 70000, range(10**12), range(10**30), array("H", bytes(140000)), bytes(70000)):
-            self.refused(1, 1, 0, derive, Night([6], inbound, 2, 3))
-        self.refused(1, 2, 0, derive, Night([1] * 70000, INBOUND, 2, 3))
+            self.refused(1, 1, 0, derive, Night([6], inbound, 2, 3, OPEN))
+        self.refused(1, 2, 0, derive, Night([1] * 70000, INBOUND, 2, 3, OPEN))
         self.refused(4, 3, 0, check, Plan(n(), 2, range(10**30)))
 
     def test_true_is_one(self):
-        self.assertEqual(derive(Night([True], [True], True, True)), (0, 1, [0]))
+        self.assertEqual(derive(Night([True], [True], True, True, OPEN)), (0, 1, [0]))
 
     def test_lists_are_not_changed(self):
         given = array("H", INBOUND)
-        derive(Night([6], given, 2, 3))
+        derive(Night([6], given, 2, 3, OPEN))
         self.assertEqual(given, array("H", INBOUND))
 
 
@@ -174,6 +178,43 @@ class Counts(Scratch):
                 self.assertRaisesRegex(InputError, "^plan is .*, not a Plan$", call, given)
 
 
+class Marks(Scratch):
+    def test_a_mark_or_its_word(self):
+        for mark, word, codes in ((Mark.OPEN, "open", CODES), (Mark.CLOSED, "closed", CLOSED_CODES)):
+            for given in (mark, word):
+                self.assertEqual(derive(n(mark=given)).codes, codes)
+            self.assertEqual((mark, Mark(word), json.dumps(mark)), (word, mark, f'"{word}"'))
+        self.assertEqual(len(Mark), 2)
+
+    def test_no_mark_is_taken_for_granted(self):
+        self.assertRaises(TypeError, Night, [6], INBOUND, 2, 3)
+        self.assertEqual(Night._field_defaults, {})
+
+    def test_what_is_no_mark(self):
+        message = r"^mark is .*, not Mark\.OPEN, Mark\.CLOSED, 'open' or 'closed'$"
+        for given in (True, False, 0, 1, None, "shut", "Open", "CLOSED", "", b"open", [], ["open"], {}, Mark, Unshown()):
+            plan = Plan(n(mark=given), 2, CODES)
+            with self.subTest(type(given).__name__):
+                self.assertRaisesRegex(InputError, message, derive, plan.night)
+                self.assertRaisesRegex(InputError, message, replay, plan, 0)
+                for call in (check, write_card):
+                    self.assertRaisesRegex(InputError, message, call, plan)
+
+    def test_the_reader_tells_the_mark(self):
+        self.assertIs(read_card(CARD).night.mark, Mark.OPEN)
+        for number, mark in ((0, OPEN), (1, CLOSED), (7, CLOSED)):
+            told = CardAnswer(mark=number, tracks=1, room=1, cars=1, trains=1)
+            with mock.patch("altairpeg.calls.library", lambda: SimpleNamespace(altairpeg_read=lambda *_: told)):
+                self.assertIs(read_card(b"").night.mark, mark)
+
+    def test_a_closed_night_goes_on_no_card(self):
+        for steps, codes in ((3, CLOSED_CODES), (2, CODES), (9, CODES), (2, [4] * 6), (2, [])):
+            with self.assertRaises(InputError) as caught:
+                write_card(Plan(n(mark=CLOSED), steps, codes))
+            self.assertEqual(str(caught.exception), "a closed night goes on no card yet: a card of edition 1 means an open one")
+        self.assertEqual(read_card(write_card(Plan(n(), 3, CLOSED_CODES))), Plan(n(), 3, CLOSED_CODES))
+
+
 class Cards(Scratch):
     def test_bytes_like(self):
         doubled = bytes(byte for pair in zip(CARD, CARD) for byte in pair)
@@ -191,7 +232,7 @@ class Cards(Scratch):
         self.refused(12, 16, 0, read_card_file, self.file("long.card", CARD + bytes(10**6)))
 
     def test_the_longest_card(self):
-        longest = write_card(Plan(Night([8] * 64, range(1, 513), 8, 512), 8, [255] * 512))
+        longest = write_card(Plan(Night([8] * 64, range(1, 513), 8, 512, OPEN), 8, [255] * 512))
         self.assertEqual(len(longest), 1237)
         self.assertEqual(read_card_file(self.file("longest.card", longest)), read_card(longest))
         self.refused(12, 1237, 0, read_card_file, self.file("longer.card", longest + b"\0"))
@@ -220,7 +261,7 @@ class Answers(Scratch):
             self.assertTrue(issubclass(error, AltairpegError))
 
     def test_refusals_in_words(self):
-        refusal = self.refused(3, 2, 1, derive, Night([2], [1, 1], 2, 512))
+        refusal = self.refused(3, 2, 1, derive, Night([2], [1, 1], 2, 512, OPEN))
         self.assertEqual((refusal.name, refusal.words), ("INBOUND_WRONG", "inbound list not each car once"))
         self.assertEqual(refusal.details, "place 2, met before, first listed at place 1")
         again = pickle.loads(pickle.dumps(refusal))
@@ -244,22 +285,23 @@ class Numpy(Scratch):
     def test_arrays(self):
         for kind in ("u1", "u2", "i2", "i4", "i8", "u8", ">u2", ">i8", "O"):
             with self.subTest(kind):
-                self.assertEqual(derive(Night(numpy.array([6], kind), numpy.array(INBOUND, kind), numpy.int64(2), numpy.uint8(3))), DERIVED)
+                lengths, inbound = numpy.array([6], kind), numpy.array(INBOUND, kind)
+                self.assertEqual(derive(Night(lengths, inbound, numpy.int64(2), numpy.uint8(3), OPEN)), DERIVED)
         gaps = numpy.array([number for car in INBOUND for number in (car, 0)])[::2]
-        self.assertEqual(derive(Night([6], gaps, 2, 3)), DERIVED)
-        self.assertEqual(derive(Night([6], [numpy.int64(car) for car in INBOUND], 2, 3)), DERIVED)
+        self.assertEqual(derive(Night([6], gaps, 2, 3, OPEN)), DERIVED)
+        self.assertEqual(derive(Night([6], [numpy.int64(car) for car in INBOUND], 2, 3, OPEN)), DERIVED)
         self.assertEqual(read_card(numpy.frombuffer(CARD, numpy.uint8)), read_card(CARD))
         self.assertEqual(price(numpy.int64(2), numpy.uint16(11), numpy.float32(1.5), numpy.float64(0.25)), 5.75)
 
     def test_refused(self):
-        self.assertEqual(self.refused(3, 3, 0, derive, Night([6], numpy.array([3, 6, -1, 5, 2, 4]), 2, 3)).place, "inbound[2] is -1")
-        self.refused(3, 1, 0, derive, Night([6], numpy.array(INBOUND, "u8") + numpy.uint64(2**63), 2, 3))
-        self.refused(1, 1, 0, derive, Night([6], numpy.array([], "i8"), 2, 3))
+        self.assertEqual(self.refused(3, 3, 0, derive, Night([6], numpy.array([3, 6, -1, 5, 2, 4]), 2, 3, OPEN)).place, "inbound[2] is -1")
+        self.refused(3, 1, 0, derive, Night([6], numpy.array(INBOUND, "u8") + numpy.uint64(2**63), 2, 3, OPEN))
+        self.refused(1, 1, 0, derive, Night([6], numpy.array([], "i8"), 2, 3, OPEN))
 
     def test_told(self):
         rows = numpy.array([INBOUND])
         for inbound in (numpy.array(INBOUND, "f8"), rows, rows.T, numpy.array(3), numpy.int64(3), numpy.array(INBOUND, "M8[s]")):
-            self.assertRaisesRegex(InputError, "^inbound", derive, Night([6], inbound, 2, 3))
+            self.assertRaisesRegex(InputError, "^inbound", derive, Night([6], inbound, 2, 3, OPEN))
         self.assertRaisesRegex(InputError, "^card is .*, not a row of bytes$", read_card, numpy.zeros(5, "i8"))
 
 

@@ -8,9 +8,9 @@ from collections import Counter
 from fractions import Fraction
 
 import model
-from altairpeg import Night, Plan, Refusal, check, derive, lists, price, replay, write_card
+from altairpeg import InputError, Night, Plan, Refusal, check, derive, lists, price, replay, write_card
 from altairpeg.library import STEPS
-from support import told
+from support import CLOSED, OPEN, told
 
 # Each is outside C's types or at their edges; those that are added wrap round to the number they are added to.
 WILD = [-1, 0, 1, 2**15, 2**16 - 1, 2**16, 2**31, 2**32, 2**63, 2**64 - 1, 2**64, -(2**16), -(2**63), -(2**64), 10**30, 10**5000]
@@ -48,10 +48,11 @@ class Drawn:
         return self.random.choice(forms)(items)
 
     def night(self):
-        """A night of up to nine cars."""
+        """A night of up to nine cars, open or closed."""
         lengths = [self.random.randint(1, 3) for _ in range(self.random.randint(1, 3))]
         inbound = self.random.sample(range(1, sum(lengths) + 1), sum(lengths))
-        return Night(self.list(lengths), self.list(inbound), self.spoilt(self.random.randint(1, 8)), self.spoilt(self.random.randint(1, 9)))
+        tracks, room = self.spoilt(self.random.randint(1, 8)), self.spoilt(self.random.randint(1, 9))
+        return Night(self.list(lengths), self.list(inbound), tracks, room, self.random.choice([OPEN, "open", CLOSED, "closed"]))
 
     def plan(self):
         """A plan of such a night, with codes that may be wrong in every way."""
@@ -94,9 +95,13 @@ class Order(unittest.TestCase):
             stage = drawn.spoilt(drawn.random.randint(0, 8))
             expected = model.plan(*plan)
             self.agrees(expected, check, plan)
-            self.agrees(expected, write_card, plan)
             self.agrees(model.plan(*plan, stage), replay, plan, stage)
-        self.all_reached((1, 1), (1, 2), (1, 3), (1, 4), (1, 5), (1, 6), (2, False), (2, True), (3, True), (4, True), (7, True))
+            if plan.night.mark == OPEN:
+                self.agrees(expected, write_card, plan)
+            else:
+                self.assertRaises(InputError, write_card, plan)
+        counts = ((1, 1), (1, 2), (1, 3), (1, 4), (1, 5), (1, 6))
+        self.all_reached(*counts, (2, False), (2, True), (3, True), (4, True), (7, True), (14, True))
 
     def test_price(self):
         drawn = Drawn(3)

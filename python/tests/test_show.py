@@ -6,8 +6,8 @@ import unittest
 from altairpeg.show import brief, draw
 from altairpeg.story import tell
 
-from drawings import EARLY, OUT_OF_ORDER, OVERFILLED, many, show
-from support import CARD, PYTHON, SHORT, Scratch, altairpeg
+from drawings import BARRED, EARLY, NINE, OUT_OF_ORDER, OVERFILLED, SHUT, many, show, zeroed
+from support import CARD, CLOSED, PYTHON, SHORT, Scratch, altairpeg
 
 # How the drawing of each refused plan ends.
 ENDS = (
@@ -35,6 +35,15 @@ trains as built
 
 check: refused 9 3 0: trains out of order (car 3)
 """),
+    (BARRED, """\
+steps 3 tracks 2 room 4 cars 6 trains 1 closed
+
+first roll-in: 3 6 1 5 2! 4
+  3 -> track 1   6 1 5 -> track 0   2! -> train 1   4 -> track 1
+  ! car 2 would roll to train 1, barred until the first pull
+
+check: refused 14 2 0: a zero code in a closed night (car 2): codes[1] is 0
+"""),
 )
 
 
@@ -42,6 +51,24 @@ class Show(Scratch):
     def test_case_1(self):
         self.ran(show(CARD), 0, (PYTHON / "tests" / "case_1.txt").read_text())
         self.ran(show(CARD, "--brief"), 0, (PYTHON / "tests" / "case_1_brief.txt").read_text())
+
+    def test_a_closed_night(self):
+        self.ran(show(SHUT), 0, (PYTHON / "tests" / "closed.txt").read_text())
+        self.ran(show(SHUT, "--brief"), 0, (PYTHON / "tests" / "closed_brief.txt").read_text())
+
+    def test_the_brief_of_a_story_that_ends_at_the_first_roll_in(self):
+        self.ran(show(BARRED, "--brief"), 1, (
+            "steps 3 tracks 2 room 4 cars 6 trains 1 closed\n"
+            "first roll-in: 3 6 1 5 2! 4\n"
+            "  ! car 2 would roll to train 1, barred until the first pull\n"
+            "check: refused 14 2 0: a zero code in a closed night (car 2): codes[1] is 0\n"
+        ))
+
+    def test_many_barred_destinations(self):
+        stages = [part.splitlines()[-1] for part in draw(tell(NINE)).split("\n\n") if part.startswith("stage ")]
+        self.assertEqual(stages[:3], ["  9 trains barred until the first pull", "  8 other trains empty", "  8 other trains as before"])
+        self.assertEqual(draw(tell(many(64, 8, mark=CLOSED))).count("barred"), 1)
+        self.assertEqual(draw(tell(many(64, 8))).count("barred"), 0)
 
     def test_refused_cards(self):
         self.ran(show(SHORT), 1, err="refused 10 16 0: card too short (16 bytes needed, as far as known)\n")
@@ -54,7 +81,8 @@ class Show(Scratch):
             self.assertEqual(run.stdout.decode()[-len(end) :], end)
 
     def test_512_cars_fit_the_width(self):
-        for plan in (many(64, 8), many(8, 64), many(1, 512, 8)):
+        closed = many(64, 8, mark=CLOSED)
+        for plan in (many(64, 8), many(8, 64), many(1, 512, 8), closed, many(8, 64, mark=CLOSED), zeroed(closed)):
             story = tell(plan)
             for width in (40, 80, 132):
                 for text in (draw(story, width), brief(story, width)):

@@ -10,10 +10,10 @@ from altairpeg.colours import COLOURS, band, contrast, fill, number_colour
 from altairpeg.story import tell
 from altairpeg.svg import LETTER, picture
 
-from drawings import EARLY, OUT_OF_ORDER, OVERFILLED, many, show
-from support import CARD, PYTHON, Scratch
+from drawings import BARRED, EARLY, NINE, OUT_OF_ORDER, OVERFILLED, SHUT, many, show, zeroed
+from support import CARD, CLOSED, OPEN, PYTHON, Scratch
 
-ALL_EARLY = Plan(Night([12], list(range(1, 13)), 1, 12), 2, [2] * 12)
+ALL_EARLY = Plan(Night([12], list(range(1, 13)), 1, 12, OPEN), 2, [2] * 12)
 KEPT = PYTHON.parent / "docs" / "first-card.svg"
 NAME = "{http://www.w3.org/2000/svg}"
 TRAINS = range(1, 65)
@@ -21,7 +21,7 @@ TRAINS = range(1, 65)
 
 def words(drawn):
     """Every text of a picture, in order."""
-    return [text.text for text in ElementTree.fromstring(drawn).iter(f"{NAME}text")]
+    return [text.text or "" for text in ElementTree.fromstring(drawn).iter(f"{NAME}text")]
 
 
 class Picture(unittest.TestCase):
@@ -36,7 +36,7 @@ class Picture(unittest.TestCase):
             self.assertIn(line, told)
 
     def test_each_stage_has_each_car(self):
-        for plan in (read_card(CARD), many(4, 15), many(8, 64)):
+        for plan in (read_card(CARD), many(4, 15), many(8, 64), many(8, 64, mark=CLOSED)):
             told = words(picture(tell(plan)))
             for car in plan.night.inbound:
                 self.assertEqual(told.count(str(car)), plan.steps + 2, "once inbound, and once at each stage")
@@ -46,13 +46,37 @@ class Picture(unittest.TestCase):
             (OVERFILLED, "! overfilled: 3 cars, and track 0 has room for 2", "4!"),
             (EARLY, "! too early for car 4: a code with 0 at step 0", "4!"),
             (OUT_OF_ORDER, "! out of order: car 3 stands before car 2", "3!"),
+            (BARRED, "! car 2 would roll to train 1, barred until the first pull", "2!"),
         ):
             told = words(picture(tell(plan)))
             self.assertIn(line, told)
             self.assertEqual(told.count(car), 1)
 
+    def test_barred_destinations(self):
+        for plan, boxes in ((SHUT, 1), (many(8, 8, mark=CLOSED), 8), (many(64, 8, mark=CLOSED), 0), (many(8, 8), 0), (BARRED, 0)):
+            told = words(picture(tell(plan)))
+            self.assertEqual(told.count("barred"), boxes)
+            self.assertEqual("Bars:" in " ".join(told), boxes > 0)
+        told = words(picture(tell(SHUT)))
+        self.assertLess(told.index("Stage 0, 6 passes; step 0 pulls track 0"), told.index("barred"))
+        self.assertLess(told.index("barred"), told.index("Stage 1, 10 passes; step 1 pulls track 1"))
+        self.assertIn("steps 3 tracks 2 room 4 cars 6 trains 1 closed", told)
+
+    def test_many_barred_destinations(self):
+        told = [line for line in words(picture(tell(NINE))) if " trains " in line]
+        self.assertEqual(told[1:], ["9 trains barred until the first pull", "8 other trains empty", "8 other trains as before"])
+
+    def test_a_story_that_ends_at_the_first_roll_in(self):
+        told = words(picture(tell(BARRED)))
+        self.assertTrue(" ".join(told).endswith("Check: refused 14 2 0: a zero code in a closed night (car 2): codes[1] is 0"))
+        self.assertFalse([line for line in told if line.startswith("Stage")])
+        self.assertIn("Red frame and !: would roll to a track that is barred until the first pull.", " ".join(told))
+        self.assertEqual(told.count("6"), 1, "a car that may roll is drawn once, and not marked")
+
     def test_nothing_leaves_the_picture(self):
-        for plan in (Plan(Night([1], [1], 1, 1), 0, [0]), many(4, 15), many(64, 8), many(1, 512, 8), OVERFILLED, ALL_EARLY):
+        plans = (Plan(Night([1], [1], 1, 1, OPEN), 0, [0]), many(4, 15), many(64, 8), many(1, 512, 8), OVERFILLED, ALL_EARLY)
+        closed = (SHUT, BARRED, many(4, 15, mark=CLOSED), many(5, 1, mark=CLOSED), many(1, 512, 8, CLOSED), zeroed(many(64, 8, mark=CLOSED)))
+        for plan in (*plans, *closed):
             root = ElementTree.fromstring(picture(tell(plan)))
             width, height = int(root.get("width")), int(root.get("height"))
             for box in root.iter(f"{NAME}rect"):
@@ -64,9 +88,10 @@ class Picture(unittest.TestCase):
                     self.assertTrue(right <= width and int(text.get("y")) <= height, text.text)
 
     def test_nothing_from_outside(self):
-        drawn = picture(tell(many(64, 8)))
-        self.assertNotRegex(drawn, r"href|url\(|<script|<style|@import")
-        self.assertEqual(re.findall(r"https?://[^\"]*", drawn), ["http://www.w3.org/2000/svg"])
+        for plan in (many(64, 8), SHUT):
+            drawn = picture(tell(plan))
+            self.assertNotRegex(drawn, r"href|url\(|<script|<style|@import")
+            self.assertEqual(re.findall(r"https?://[^\"]*", drawn), ["http://www.w3.org/2000/svg"])
 
 
 class Colours(unittest.TestCase):
@@ -92,6 +117,9 @@ class Command(Scratch):
     def test_refused_plan_is_drawn_and_told(self):
         self.ran(self.drawn(self.folder / "x.svg", OVERFILLED), 1, err="check: refused 6 0 3: a track overfilled (step 0, 3 cars)\n")
         ElementTree.parse(self.folder / "x.svg")
+        line = "check: refused 14 2 0: a zero code in a closed night (car 2): codes[1] is 0\n"
+        self.ran(self.drawn(self.folder / "y.svg", BARRED), 1, err=line)
+        self.assertEqual((self.folder / "y.svg").read_text(), picture(tell(BARRED)))
 
     def test_refused_card_leaves_the_old_picture(self):
         old = self.file("x.svg", b"old")

@@ -1,13 +1,14 @@
-"""The trial nights of document 01, each under its number, and the module's own promises."""
+"""The trial nights of document 01, each under its number, the same nights closed, and the module's own promises."""
 
 import doctest
 import math
 import pickle
+import random
 import unittest
 
 import altairpeg
 from altairpeg import Checked, Derived, Night, Plan, Refusal, check, derive, fewest_tracks, price, read_card, replay, write_card
-from support import CARD, INBOUND, Scratch, n, turned
+from support import CARD, CLOSED, CLOSED_CODES, CODES, INBOUND, OPEN, Scratch, n, one_car, turned
 
 
 class TrialNights(Scratch):
@@ -34,11 +35,11 @@ class TrialNights(Scratch):
         self.refused(9, 3, 0, check, plan)
 
     def test_case_7(self):
-        self.assertEqual(derive(Night([1], [1], 2, 512)), Derived(steps=0, passes=1, codes=[0]))
+        self.assertEqual(derive(one_car(OPEN)), Derived(steps=0, passes=1, codes=[0]))
 
     def test_case_8(self):
-        self.assertEqual(derive(Night([1, 1], [2, 1], 2, 512)).steps, 0)
-        self.assertEqual(derive(Night([2], [2, 1], 2, 512)).steps, 1)
+        self.assertEqual(derive(Night([1, 1], [2, 1], 2, 512, OPEN)).steps, 0)
+        self.assertEqual(derive(Night([2], [2, 1], 2, 512, OPEN)).steps, 1)
 
     def test_case_9(self):
         derived = derive(turned(7, 2))
@@ -49,10 +50,10 @@ class TrialNights(Scratch):
         self.assertEqual(derive(turned(8, 3)).steps, 3)
 
     def test_case_11(self):
-        self.refused(8, 1, 0, check, Plan(Night([1], [1], 2, 512), 3, [4]))
+        self.refused(8, 1, 0, check, Plan(one_car(OPEN), 3, [4]))
 
     def test_case_12(self):
-        self.refused(3, 2, 1, derive, Night([2], [1, 1], 2, 512))
+        self.refused(3, 2, 1, derive, Night([2], [1, 1], 2, 512, OPEN))
 
     def test_case_13(self):
         self.refused(5, 3, 0, derive, n(tracks=1), 2)
@@ -82,7 +83,7 @@ class TrialNights(Scratch):
 
     def test_numbers_too_large_are_not_cut_off(self):
         self.assertRaises(ValueError, fewest_tracks, 256)
-        self.refused(2, 0, 0, derive, Night([6 + 2**16], INBOUND, 2, 3))
+        self.refused(2, 0, 0, derive, Night([6 + 2**16], INBOUND, 2, 3, OPEN))
         self.refused(1, 3, 0, derive, n(tracks=2 + 2**64))
 
     def test_refusal_in_words(self):
@@ -91,7 +92,81 @@ class TrialNights(Scratch):
         self.assertEqual(str(pickle.loads(pickle.dumps(refusal))), str(refusal))
 
     def test_examples_of_the_module(self):
-        self.assertEqual(doctest.testmod(altairpeg), (0, 4))
+        self.assertEqual(doctest.testmod(altairpeg), (0, 5))
+
+
+def breaks(night):
+    """How many breaks stand before each car in its train, in car order."""
+    place, counted, car = {car: at for at, car in enumerate(night.inbound)}, [], 0
+    for length in night.lengths:
+        counted.append(0)
+        for car in range(car + 2, car + length + 1):
+            counted.append(counted[-1] + (place[car] < place[car - 1]))
+        car = len(counted)
+    return counted
+
+
+class ClosedNights(Scratch):
+    """Where the destinations are barred until the first pull."""
+
+    def test_night_n(self):
+        derived = derive(n(mark=CLOSED))
+        self.assertEqual(derived, Derived(steps=3, passes=14, codes=CLOSED_CODES))
+        self.assertEqual(check(derived.plan), Checked(passes=14, fullest_pull=4))
+        self.refused(6, 0, 4, derive, n(room=3, mark=CLOSED))
+        self.refused(5, 3, 0, derive, n(mark=CLOSED), 2)
+
+    def test_stages_of_night_n(self):
+        plan = Plan(n(mark=CLOSED), 3, CLOSED_CODES)
+        first, last = replay(plan, 0), replay(plan, 3)
+        self.assertEqual([first.cars_on(track) for track in range(3)], [[6, 1, 5, 2], [3, 4], []])
+        self.assertEqual((last.passes, last.cars_on(2)), (14, [1, 2, 3, 4, 5, 6]))
+
+    def test_one_car(self):
+        self.assertEqual(derive(one_car(CLOSED)), Derived(steps=1, passes=2, codes=[1]))
+        self.refused(5, 1, 0, derive, one_car(CLOSED), 0)
+        self.assertEqual(derive(one_car(OPEN), 0), Derived(steps=0, passes=1, codes=[0]))
+
+    def test_one_break_less(self):
+        self.assertEqual([derive(turned(7, 2, mark)).steps for mark in (OPEN, CLOSED)], [3, 4])
+        self.assertEqual(derive(turned(6, 2, CLOSED)).codes, [1, 2, 3, 5, 6, 7])
+        self.assertEqual(derive(turned(255, 8, CLOSED)).steps, 8)
+        self.refused(5, 9, 0, derive, turned(256, 8, CLOSED))
+
+    def test_the_same_codes_open_and_closed(self):
+        for call in (check, lambda plan: replay(plan, 1)):
+            self.assertEqual(call(Plan(n(), 2, CODES)).passes, {check: 11}.get(call, 9))
+            self.assertEqual(self.refused(14, 1, 0, call, Plan(n(mark=CLOSED), 2, CODES)).place, "codes[0] is 0")
+            self.assertEqual(self.refused(14, 5, 0, call, Plan(n(mark="closed"), 3, [1, 1, 2, 2, 0, 0])).place, "codes[4] is 0")
+            self.assertEqual(*(call(Plan(n(mark=mark), 3, CLOSED_CODES)) for mark in (OPEN, CLOSED)))
+
+    def test_7_then_14_then_8(self):
+        night = Night([2], [1, 2], 2, 512, CLOSED)
+        for call in (check, lambda plan: replay(plan, 0)):
+            self.refused(7, 2, 0, call, Plan(night, 3, [0, 8]))
+            self.refused(14, 2, 0, call, Plan(night, 3, [4, 0]))
+            self.refused(8, 1, 0, call, Plan(night, 3, [4, 1]))
+            self.refused(8, 1, 0, call, Plan(night._replace(mark=OPEN), 3, [4, 0]))
+
+    def test_14_in_words(self):
+        refusal = self.refused(14, 1, 0, check, Plan(one_car(CLOSED), 0, [0]))
+        self.assertEqual(str(refusal), "refused 14 1 0: a zero code in a closed night (car 1): codes[0] is 0")
+        self.assertEqual(refusal.name, "ZERO_CODE")
+
+    def test_the_code_numbers(self):
+        chance = random.Random(7)
+        for _ in range(300):
+            cars, tracks = chance.randint(2, 24), chance.randint(1, 8)
+            first = chance.randint(1, cars - 1)
+            night = Night([first, cars - first], chance.sample(range(1, cars + 1), cars), tracks, 512, OPEN)
+            usable = [code for code in range(256) if fewest_tracks(code) <= tracks]
+            for mark, skipped in ((OPEN, 0), (CLOSED, 1)):
+                if max(breaks(night)) + skipped >= len(usable):
+                    continue  # more breaks than eight steps can mend
+                derived = derive(night._replace(mark=mark))
+                self.assertEqual(derived.codes, [usable[count + skipped] for count in breaks(night)])
+                self.assertEqual(derived.steps, max(derived.codes).bit_length())
+                self.assertEqual(check(derived.plan).passes, derived.passes)
 
 
 if __name__ == "__main__":
