@@ -23,7 +23,8 @@ pub extern "C" fn altairpeg_derive(
     counts: Counts,
     codes: &mut [u16],
 ) -> Answer
-    ensures { λ r. ⌜ Derives (nightGiven (now (lengths .entry)) (now (inbound .entry)) (closedBy mark) counts) (counts .steps) (now (codes .entry)) r (now (codes .exit)) ⌝ }
+    ensures { λ r. ⌜ Derives (nightGiven (now (lengths .entry)) (now (inbound .entry)) (closedBy mark) counts) (counts .steps)
+        (now (codes .entry)) r (now (codes .exit)) ⌝ }
 {
     derive::derive(lengths, inbound, mark != 0, counts, codes)
 }
@@ -83,7 +84,8 @@ pub extern "C" fn altairpeg_write(
     counts: Counts,
     card: &mut [u8],
 ) -> Answer
-    ensures { λ r. ⌜ Writes (planGiven (now (lengths .entry)) (now (inbound .entry)) (now (codes .entry)) false counts) (now (card .entry)) r (now (card .exit)) ⌝ }
+    ensures { λ r. ⌜ Writes (planGiven (now (lengths .entry)) (now (inbound .entry)) (now (codes .entry)) false counts)
+        (now (card .entry)) r (now (card .exit)) ⌝ }
 {
     card::write(lengths, inbound, codes, counts, card)
 }

@@ -6,7 +6,7 @@ use yard::Counts;
 use yard::Head;
 ghost use mathlib.Core.Path.{_≡_};
 ghost use mathlib.Core.Bool.{false};
-ghost use Rattle.yard.specs.Night.{planOf, planGiven};
+ghost use Rattle.yard.specs.Night.{planGiven};
 ghost use Rattle.yard.specs.Card.{readerSays, Reads, Writes};
 
 // The reader's answer: the verdict, the mark of an open night, which is the one that edition 1 means, and the numbers of a head.

@@ -97,7 +97,8 @@ pub fn derive(
     counts: Counts,
     codes: &mut [u16],
 ) -> Answer
-    ensures { λ r. ⌜ Derives (nightGiven (now (lengths .entry)) (now (inbound .entry)) closed counts) (counts .steps) (now (codes .entry)) r (now (codes .exit)) ⌝ }
+    ensures { λ r. ⌜ Derives (nightGiven (now (lengths .entry)) (now (inbound .entry)) closed counts) (counts .steps)
+        (now (codes .entry)) r (now (codes .exit)) ⌝ }
 {
     let refusal = given(
         lengths,

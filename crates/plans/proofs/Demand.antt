@@ -11,7 +11,7 @@ use Rattle.yard.specs.Limits.{limits}
 use Rattle.yard.specs.Words.{most, upFrom}
 use Rattle.yard.specs.Night.{Plan, cars, itemOf}
 use Rattle.yard.specs.Replay.{yardAt, pullSize, fullestPull, trackOf, placeOf}
-use Rattle.yard.specs.Demands.{Within, InboundWrong}
+use Rattle.yard.specs.Demands.{Within, InboundWrong, ZeroWrong}
 use Rattle.yard.specs.Answers.{says, onto, FirstFails}
 use Rattle.yard.specs.Calls.{checkAsks, Checks, GoodPlan, replayAsks, replayAnswer, Replays, Replayable, carTracks, carPlaces}
 use Rattle.yard.proofs.general.Fronts.{front-taken, front-left}
@@ -21,14 +21,15 @@ use Rattle.yard.proofs.yards.Trains.{most-above, most-reached}
 use Rattle.yard.proofs.yards.DerivedPlan.{by-car, length-by-car}
 use Rattle.yard.proofs.yards.PlanYard.{one-place}
 use Rattle.yard.proofs.calls.Asks.{told-alike}
-use Rattle.yard.proofs.Demands.{check-accepts-exactly, check-refuses-exactly, check-listing-exactly, check-reports}
-use Rattle.yard.proofs.Demands.{replay-accepts-exactly, replay-refuses-exactly, replay-listing-exactly, replay-reports}
+use Rattle.yard.proofs.Demands.{opened, check-accepts-exactly, check-refuses-exactly, check-listing-exactly, check-zero-exactly, check-opened, check-reports}
+use Rattle.yard.proofs.Demands.{replay-accepts-exactly, replay-refuses-exactly, replay-listing-exactly, replay-zero-exactly, replay-reports}
 
 -- ---- check
 
 -- what an accepted check has told
 pub record Checked (p : Plan) (r : Answer) : Type 0 where
-  -- the lists and codes are well formed, and the replay pulls no car early, overfills no track and builds every train in order
+  -- the lists and codes are well formed, and the replay keeps the destinations of a closed night clear until the first pull, pulls no
+  -- car early, overfills no track and builds every train in order
   pub good : GoodPlan limits p
   -- the passes are the cars that roll in its replay, counted one by one
   pub passes : r .a ≡ yardAt p (p .steps) .rolled
@@ -53,6 +54,15 @@ module _ (p : Plan) (r : Answer) (promise : Checks p r) where
   -- where its number was first listed, 0 for a number out of range
   pub check-listing : (a b : ℕ) → (r ≡ says 3 a b) ↔ InboundWrong limits (p .night) (p .steps) a b
   check-listing a b = told-alike (promise .answer) (check-listing-exactly limits p a b)
+
+  -- 14 comes exactly if night and codes are well formed but for a zero code in a closed night: A is the first car with it
+  pub check-zero : (a b : ℕ) → (r ≡ says 14 a b) ↔ ZeroWrong limits p a b
+  check-zero a b = told-alike (promise .answer) (check-zero-exactly limits p a b)
+
+  -- who has a plan accepted in a closed night is told the same of it in an open one
+  pub check-again : (s : Answer) → Checks (opened p) s → r .number ≡ 0 → s ≡ r
+  check-again s again z =
+      again .answer ∙ (check-opened limits p (sym (ap (λ (a : Answer). a .number) (promise .answer)) ∙ z) ∙ sym (promise .answer))
 
   pub check-tells : r .number ≡ 0 → Checked p r
   unfolding fullestPull
@@ -86,7 +96,8 @@ item g n l e car w =
 
 -- what an accepted replay has told: of each car, by the items of the two buffers
 pub record Stood (p : Plan) (stage : ℕ) (tracks₀ places₀ : List ℕ) (r : Answer) (tracks₁ places₁ : List ℕ) : Type 0 where
-  -- all that it asks holds: the whole plan's replay pulls no car early and overfills no track
+  -- all that it asks holds: the whole plan's replay keeps the destinations of a closed night clear until the first pull, pulls no car
+  -- early and overfills no track
   pub able : Replayable limits p stage (length tracks₀) (length places₀)
   -- the passes are the cars that rolled in up to the stage, counted one by one
   pub passes : r .a ≡ yardAt p stage .rolled
@@ -116,6 +127,10 @@ module _ (p : Plan) (stage : ℕ) (tracks₀ places₀ : List ℕ) (r : Answer) 
 
   pub replay-refuses : (k a b : ℕ) → 0 < k → (r ≡ says k a b) ↔ FirstFails k a b (replayAsks limits p stage (length tracks₀) (length places₀))
   replay-refuses k a b pos = told-alike (promise .answer) (replay-refuses-exactly limits p stage (length tracks₀) (length places₀) k a b pos)
+
+  pub replay-zero : (a b : ℕ) → (r ≡ says 14 a b) ↔
+      (ZeroWrong limits p a b × Within 0 (p .steps) stage × (length (p .night .inbound) ≤ length tracks₀) × (length (p .night .inbound) ≤ length places₀))
+  replay-zero a b = told-alike (promise .answer) (replay-zero-exactly limits p stage (length tracks₀) (length places₀) a b)
 
   pub replay-listing : (a b : ℕ) → (r ≡ says 3 a b) ↔ (InboundWrong limits (p .night) (p .steps) a b × Within 0 (p .steps) stage)
   replay-listing a b = told-alike (promise .answer) (replay-listing-exactly limits p stage (length tracks₀) (length places₀) a b)

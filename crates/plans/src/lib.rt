@@ -7,7 +7,7 @@ ghost use mathlib.Core.List.{_∷_, []};
 ghost use Prim.Native.Nat.{_+_, _≤_, _<_};
 ghost use lib.ListN.{length};
 ghost use Rattle.yard.specs.Limits.{limits};
-ghost use Rattle.yard.specs.Night.{planOf, planGiven};
+ghost use Rattle.yard.specs.Night.{planGiven};
 ghost use Rattle.yard.specs.Answers.{says, verdict};
 ghost use Rattle.yard.specs.Calls.{Checks, Replays};
 ghost use Rattle.yard.specs.Demands.{Listed, CodesBelow};
@@ -63,18 +63,12 @@ fn full(codes: &[u16], fullest: usize, room: usize, steps: usize) -> Answer
 }
 
 // 7, 14, 8 and 6: what the codes alone can break, with their fullest pull.
-fn sound(
-    codes: &[u16],
-    fullest: usize,
-    closed: bool,
-    tracks: usize,
-    room: usize,
-    steps: usize,
-) -> Answer
-    requires { ⌜ (0 < tracks) × (steps ≤ limits .steps) × (length (now codes) ≤ limits .cars) × (fullest ≡ fullestOf (now codes) steps) ⌝ }
-    ensures { λ r. ⌜ r ≡ verdict (soundTests closed tracks room steps (now (codes .entry))) (says 0 0 0) ⌝ }
+fn sound(codes: &[u16], fullest: usize, closed: bool, counts: Counts) -> Answer
+    requires { ⌜ (0 < counts .tracks) × (counts .steps ≤ limits .steps) × (length (now codes) ≤ limits .cars) × (fullest ≡ fullestOf (now codes)
+        (counts .steps)) ⌝ }
+    ensures { λ r. ⌜ r ≡ verdict (soundTests closed (counts .tracks) (counts .room) (counts .steps) (now (codes .entry))) (says 0 0 0) ⌝ }
 {
-    let below = intake::codes(codes, steps);
+    let below = intake::codes(codes, counts.steps);
     if below.number != 0 {
         return below;
     }
@@ -82,11 +76,11 @@ fn sound(
     if moved.number != 0 {
         return moved;
     }
-    let pulled = kept(codes, tracks, steps);
+    let pulled = kept(codes, counts.tracks, counts.steps);
     if pulled.number != 0 {
         return pulled;
     }
-    full(codes, fullest, room, steps)
+    full(codes, fullest, counts.room, counts.steps)
 }
 
 // The lowest car that breaks the rule with the next, or the last car where there is none.
@@ -140,14 +134,7 @@ pub fn check(
         return listed;
     }
     let fullest = sorting::fullest(codes, counts.steps);
-    let replayed = sound(
-        codes,
-        fullest,
-        closed,
-        counts.tracks,
-        counts.room,
-        counts.steps,
-    );
+    let replayed = sound(codes, fullest, closed, counts);
     if replayed.number != 0 {
         return replayed;
     }
@@ -225,14 +212,7 @@ pub fn replay(
         return listed;
     }
     let fullest = sorting::fullest(codes, counts.steps);
-    let replayed = sound(
-        codes,
-        fullest,
-        closed,
-        counts.tracks,
-        counts.room,
-        counts.steps,
-    );
+    let replayed = sound(codes, fullest, closed, counts);
     if replayed.number != 0 {
         return replayed;
     }

@@ -18,7 +18,7 @@ use Rattle.yard.specs.Derived.{stepsNeeded, derivedCodes, derivedPlan}
 use Rattle.yard.specs.Answers.{says, onto}
 use Rattle.yard.specs.Demands.{BuildsTrains}
 use Rattle.yard.specs.Calls.{Checks, Derives, checkAnswer, deriveAnswer, deriveTests}
-use Rattle.yard.specs.Card.{card, cardPlan, readerVerdict, readerAnswer, writerTests, writerAnswer, Reads, Writes}
+use Rattle.yard.specs.Card.{card, cardPlan, readerVerdict, writerTests, writerAnswer, Reads, Writes}
 use Rattle.yard.proofs.general.Numbers.{le-or-lt}
 use Rattle.yard.proofs.general.Fronts.{front-taken, front-within}
 use Rattle.yard.proofs.yards.DerivedPlan.{length-by-car}
@@ -29,7 +29,7 @@ use Rattle.card.proofs.Calls.{plan-read}
 use Rattle.lines.specs.Text.{Adds}
 use Rattle.lines.specs.Lines.{refusalLine, countsLine, trainLine, eachTo}
 use Rattle.report.specs.Programs.{unlessRefused, ofCard, trainLines, checkedLines, ofDerived, cardIn}
-use Rattle.lines.proofs.Adding.{adds-same, adds-then, adds-front}
+use Rattle.lines.proofs.Adding.{adds-same, adds-front}
 use Rattle.report.proofs.Yields.{Good, checked-good, derived-writes, derived-no-room}
 
 -- an answer that is done, and one that is not

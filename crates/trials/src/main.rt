@@ -202,8 +202,8 @@ fn listings() {
     );
 }
 
-// Request #103: the night N and one car, closed; then zero codes, where 7 comes before 14 and 14 before 8, and the same plan open.
-fn closed_nights() {
+// Request #103: the night N, closed: derived, checked, and replayed to the first and the last stage.
+fn closed_night() {
     let inbound = [3u16, 6, 1, 5, 2, 4];
     let codes = [1u16, 1, 2, 2, 3, 5];
     trial(b"103: N closed", &[6u16], &inbound, true, 2, 512, 8, 7);
@@ -218,6 +218,15 @@ fn closed_nights() {
     );
     staged(b"103: stage 0", &codes, true, 3, 0);
     staged(b"103: the end", &codes, true, 3, 3);
+}
+
+// Checks a plan of two cars in one train, on two tracks.
+fn two_cars(name: &[u8], codes: &[u16], closed: bool, steps: usize) {
+    checked(name, &[2u16], &[1u16, 2], codes, closed, 2, steps);
+}
+
+// Request #103: one car alone, closed; then zero codes, where 7 comes before 14 and 14 before 8, and the same plan open.
+fn zero_codes() {
     trial(b"103: one car", &[1u16], &[1u16], true, 2, 512, 8, 2);
     trial(
         b"103: one car, limit 0",
@@ -236,40 +245,17 @@ fn closed_nights() {
         2,
         0,
     );
-    checked(
-        b"103: 0 2, one step",
-        &[2u16],
-        &[1u16, 2],
-        &[0u16, 2],
-        true,
-        2,
-        1,
-    );
-    checked(
-        b"103: 4 0, three steps",
-        &[2u16],
-        &[1u16, 2],
-        &[4u16, 0],
-        true,
-        2,
-        3,
-    );
-    checked(
-        b"103: 4 0, open",
-        &[2u16],
-        &[1u16, 2],
-        &[4u16, 0],
-        false,
-        2,
-        3,
-    );
+    two_cars(b"103: 0 2, one step", &[0u16, 2], true, 1);
+    two_cars(b"103: 4 0, three steps", &[4u16, 0], true, 3);
+    two_cars(b"103: 4 0, open", &[4u16, 0], false, 3);
 }
 
 fn main() {
     good_plan();
     wrong_plans();
     listings();
-    closed_nights();
+    closed_night();
+    zero_codes();
     night_n(b"1: N", 2, 512, 8);
     night_n(b"4: N on one track", 1, 512, 8);
     night_n(b"5: N with room for 2", 2, 2, 8);

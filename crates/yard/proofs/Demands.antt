@@ -1,22 +1,27 @@
 -- The demands, as theorems on the calls' outcomes: what a customer may rely on.
-use Prim.Native.Nat.{ℕ, suc, _≤_, _<_}
-use mathlib.Core.Path.{_≡_, refl, sym, ap, _∙_}
-use mathlib.Core.Logic.{_⊎_, _↔_, Iff·trans}
+use Prim.Native.Nat.{ℕ, _≤_, _<_}
+use mathlib.Core.Path.{_≡_, refl, sym, _∙_}
+use mathlib.Core.Logic.{_↔_, Iff·trans}
+use mathlib.Core.Bool.{false}
 use mathlib.Core.List.{List, [], _∷_, _++_}
 use native.Mathlib.Omega.{arith}
 use lib.ListN.{length}
 use Rattle.yard.specs.declared.Answer.{Answer}
 use Rattle.yard.specs.Limits.{Limits}
-use Rattle.yard.specs.Night.{Night, Plan}
-use Rattle.yard.specs.Replay.{yardAt, passes, fullestPull, pullSize}
-use Rattle.yard.specs.Derived.{stepsNeeded, derivedCodes, derivedPlan}
-use Rattle.yard.specs.Demands.{Least, Within, InLimits, Listed, ListedWrong, InboundWrong, Given, CodesFormed, HasRoom, Sorts, Sortable, OverfullStep}
-use Rattle.yard.specs.Answers.{says, Ask, AllHold, FirstFails, countAsk, trainAsk, sumAsk, inboundAsk, bufferAsk, limitAsk, roomAsk}
+use Rattle.yard.specs.Night.{Night, Plan, planOf}
+use Rattle.yard.specs.Replay.{yardAt, passes, fullestPull, pulled, pullSize, built}
+use Rattle.yard.specs.Derived.{stepsNeeded, derivedPlan}
+use Rattle.yard.specs.Demands.{Least, Within, InLimits, Listed, ListedWrong, InboundWrong, ZeroWrong, Given, KeepsClear, NeverEarly, HasRoom}
+use Rattle.yard.specs.Demands.{BuildsTrains, Sorts, Sortable, OverfullStep}
+use Rattle.yard.specs.Answers.{says, Ask, AllHold, FirstFails, countAsk, trainAsk, sumAsk, inboundAsk, lengthAsk, bufferAsk, limitAsk}
+use Rattle.yard.specs.Answers.{codeAsk, zeroAsk, earlyAsk, roomAsk, orderAsk}
 use Rattle.yard.specs.Calls.{countAsks, listAsks, opening, deriveOwn, deriveAsks, deriveTests, deriveAnswer, DeriveGiven, Derivable, Derives, checkOwn}
 use Rattle.yard.specs.Calls.{checkAsks, checkTests, checkAnswer, GoodPlan, Checks, replayOwn, replayAsks, replayTests, replayAnswer, Replayable}
 use Rattle.yard.specs.Calls.{Replays}
 use Rattle.yard.proofs.calls.Verdict.{verdict-done}
+use Rattle.yard.proofs.general.Bools.{clash}
 use Rattle.yard.proofs.yards.Plans.{range-once}
+use Rattle.yard.proofs.yards.Clear.{clear-exactly}
 use Rattle.yard.proofs.yards.Least.{least-steps}
 use Rattle.yard.proofs.yards.DerivedPlan.{derived-sorts}
 use Rattle.yard.proofs.calls.Asks.{Sound, Unnamed, holds-append, sound-append, fails-past, fails-at, accepted-exactly, refused-exactly, refused-at}
@@ -120,6 +125,14 @@ call-wrong L n h others behind a b =
 
 -- ---- demands 1 and 2: check
 
+-- the same plan, with the destinations open
+abbrev pub opened : Plan → Plan
+opened p = planOf (p .night .lengths) (p .night .inbound) false (p .night .tracks) (p .night .room) (p .steps) (p .codes)
+
+-- a car with a zero code stands on its destination too early
+zero-not-clear : {L : Limits} {a b : ℕ} (p : Plan) → ZeroWrong L p a b → KeepsClear p → ⊥
+zero-not-clear {a = a} p w keeps = clear-exactly p (w .given .lists) (w .given .counts .tracks .0) (w .codes) .0 keeps a (w .car .holds)
+
 module _ (L : Limits) (p : Plan) where
   abbrev check-done : Answer
   check-done = says 0 (passes p (p .steps)) (fullestPull p)
@@ -175,6 +188,41 @@ module _ (L : Limits) (p : Plan) where
   pub check-listing-exactly : (a b : ℕ) → (checkAnswer L p ≡ says 3 a b) ↔ InboundWrong L (p .night) (p .steps) a b
   check-listing-exactly a b =
       Iff·trans (check-refuses-exactly 3 a b (omega arith)) (call-wrong L (p .night) (p .steps) (checkOwn p) (omega arith) a b)
+
+  -- 14 comes exactly if night and codes are well formed but for a zero code in a closed night; A is the first car with it
+  pub check-zero-exactly : (a b : ℕ) → (checkAnswer L p ≡ says 14 a b) ↔ ZeroWrong L p a b
+  unfolding checkAnswer
+  check-zero-exactly a b =
+      let formed = lengthAsk 3 (length (p .codes)) (length (p .night .inbound)) ∷ codeAsk (p .steps) (p .codes) ∷ [] in
+      let begun = opening-holds L (p .night) (p .steps) [] formed in
+      let exactly =
+      refused-at check-done refl (opening L (p .night) (p .steps) [] formed) (zeroAsk p) (earlyAsk p ∷ roomAsk p ∷ orderAsk p ∷ [])
+      (omega arith) check-sound (omega arith) (omega arith) a b in (
+        λ e.
+            let (front, _, told) = exactly .0 e in
+            let (given, _, more) = begun .0 front in
+            let (each, more) = more in
+            record { given = given; codes = record { each = each; below = more .0 }; car = told .0; unused = told .1 },
+        λ w. exactly .1 (begun .1 (w .given, tt, (w .codes .each, (w .codes .below, tt))), zero-not-clear p w, (w .car, w .unused)),
+      )
+
+-- what is accepted in a closed night is accepted in an open one, with the same answer: the mark asks for nothing but clear destinations
+pub check-opened : (L : Limits) (p : Plan) → checkAnswer L p .number ≡ 0 → checkAnswer L (opened p) ≡ checkAnswer L p
+unfolding checkAnswer KeepsClear NeverEarly HasRoom BuildsTrains passes fullestPull pullSize pulled built yardAt
+check-opened L p e =
+    let good = check-accepts-exactly L p .0 e in
+    let same : GoodPlan L (opened p) =
+    record {
+      given = record { counts = good .given .counts; lists = good .given .lists };
+      each = good .each;
+      below = good .below;
+      clear = λ shut. clash shut refl;
+      never = good .never;
+      room = good .room;
+      builds = good .builds;
+    } in
+    let done = says 0 (passes p (p .steps)) (fullestPull p) in
+    verdict-done (checkTests L (opened p)) done (check-accepts-exactly L (opened p) .1 same) ∙ sym (verdict-done (checkTests L p) done e)
 
 -- ---- demands 1 and 2: replay to a stage
 
@@ -238,6 +286,32 @@ module _ (L : Limits) (p : Plan) (stage trackSize placeSize : ℕ) where
       → (replayAnswer L p stage trackSize placeSize ≡ says k a b) ↔ FirstFails k a b (replayAsks L p stage trackSize placeSize)
   unfolding replayAnswer
   replay-refuses-exactly k a b pos = refused-exactly replay-done refl k a b pos (replayAsks L p stage trackSize placeSize) replay-sound
+
+  pub replay-zero-exactly : (a b : ℕ)
+      → (replayAnswer L p stage trackSize placeSize ≡ says 14 a b) ↔
+      (ZeroWrong L p a b × Within 0 (p .steps) stage × (length (p .night .inbound) ≤ trackSize) × (length (p .night .inbound) ≤ placeSize))
+  unfolding replayAnswer
+  replay-zero-exactly a b =
+      let n = length (p .night .inbound) in
+      let reached = countAsk 6 0 (p .steps) stage ∷ [] in
+      let formed = lengthAsk 3 (length (p .codes)) n ∷ bufferAsk 4 n trackSize ∷ bufferAsk 5 n placeSize ∷ codeAsk (p .steps) (p .codes) ∷ [] in
+      let begun = opening-holds L (p .night) (p .steps) reached formed in
+      let exactly =
+      refused-at replay-done refl (opening L (p .night) (p .steps) reached formed) (zeroAsk p) (earlyAsk p ∷ roomAsk p ∷ [])
+      (omega arith) replay-sound (omega arith) (omega arith) a b in (
+        λ e.
+            let (front, _, told) = exactly .0 e in
+            let (given, own, more) = begun .0 front in
+            let (each, more) = more in
+            let (tracks, more) = more in
+            let (places, more) = more in
+            let wrong : ZeroWrong L p a b =
+            record { given = given; codes = record { each = each; below = more .0 }; car = told .0; unused = told .1 } in
+            (wrong, own .0, tracks, places),
+        λ (w, own, tracks, places).
+            exactly .1
+            (begun .1 (w .given, (own, tt), (w .codes .each, (tracks, (places, (w .codes .below, tt))))), zero-not-clear p w, (w .car, w .unused)),
+      )
 
   pub replay-listing-exactly : (a b : ℕ)
       → (replayAnswer L p stage trackSize placeSize ≡ says 3 a b) ↔ (InboundWrong L (p .night) (p .steps) a b × Within 0 (p .steps) stage)

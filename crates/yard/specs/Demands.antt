@@ -111,6 +111,13 @@ pub record InboundWrong (L : Limits) (n : Night) (h a b : ℕ) : Type 0 where
   pub counts : InLimits L (length (n .inbound)) (length (n .lengths)) (n .tracks) (n .room) h
   pub lists : ListedWrong (n .lengths) (n .inbound) a b
 
+-- a plan whose night and codes are well formed, but for a zero code in a closed night; car a is the first with it, and b says nothing
+pub record ZeroWrong (L : Limits) (p : Plan) (a b : ℕ) : Type 0 where
+  pub given : Given L (p .night) (p .steps)
+  pub codes : CodesFormed p
+  pub car : Least (ZeroCode p) a
+  pub unused : b ≡ 0
+
 -- step k takes a car that its code does not name; some car
 unfoldable pub TakesEarly : Plan → ℕ → ℕ → Type 0
 TakesEarly p k car = (0 < count car (pulled p k)) × (bit k (codeOf p car) ≡ false)
@@ -133,7 +140,8 @@ BreaksRule p c =
     (j : ℕ) × (c ≡ suc j) × Within 1 (length (p .night .inbound)) j × Within 1 (length (p .night .inbound)) c ×
     (pair (p .night .lengths) j ≡ true) × (Ruled p j → ⊥)
 
--- room aside, a plan that builds the trains of its night, and in a closed one keeps its destinations clear until the first pull; and a night for which one keeps to a step limit, whatever codes it gives
+-- room aside, a plan that builds the trains of its night, and in a closed one keeps the destinations clear until the first pull; and a
+-- night for which one keeps to a step limit, whatever codes it gives
 pub record Sorts (p : Plan) : Type 0 where
   pub codes : CodesFormed p
   pub clear : KeepsClear p

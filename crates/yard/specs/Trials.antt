@@ -1,8 +1,8 @@
 -- The trial nights of document 01 that are marked P, and nights of document 02: what the written meaning says, beside what the
 -- documents say.
-use Prim.Native.Nat.{ℕ, _+_, _-_}
+use Prim.Native.Nat.{ℕ, _-_}
 use mathlib.Core.Bool.{Bool, true, false, _&&_}
-use mathlib.Core.List.{List, [], _∷_, _++_, map, reverse}
+use mathlib.Core.List.{List, [], _∷_, map, reverse}
 use lib.ListN.{length, take}
 use Rattle.yard.specs.declared.Answer.{Answer}
 use Rattle.yard.specs.Words.{same, upFrom}

@@ -10,7 +10,8 @@ use Rattle.card.proofs.write.Tie as tie
 
 plan : tie.Start → Plan
 plan c =
-    planOf (now (c .args .lengths)) (now (c .args .inbound)) false (c .args .counts .tracks) (c .args .counts .room) (c .args .counts .steps) (now (c .args .codes))
+    let a = c .args in
+    planOf (now (a .lengths)) (now (a .inbound)) false (a .counts .tracks) (a .counts .room) (a .counts .steps) (now (a .codes))
 
 draw-requires : tie.Need-draw-requires
 unfolding plan

@@ -58,7 +58,8 @@ loop-again c =
       omega arith,
       length-set (at-loop .loop .numbers) i (getD (called .last .1 .1 .0) (q + first .result) 0) ∙
           held .1,
-      rw (first .ensures, code) (front-through [] (codeNumber (args .closed) (args .tracks) (args .steps)) (now (args .numbers)) (omega arith) (omega arith) (held .2)),
+      rw (first .ensures, code)
+          (front-through [] (codeNumber (args .closed) (args .tracks) (args .steps)) (now (args .numbers)) (omega arith) (omega arith) (held .2)),
     )
 
 same-length : tie.Need-same-length Inv-loop μ-loop

@@ -89,5 +89,6 @@ plan-spec =
     tie.close
     (tie.spec
     (λ c. search needs) (λ c κs. search needs) (λ c κs. search needs) (λ c. omega arith) add-fewest-steps fewest-steps-requires
-    (λ c κs. search needs) returns (λ c. search needs) (λ c. search needs) (λ c. search needs) give-requires (λ c. search needs) (λ c. search needs) part-settle-end
+    (λ c κs. search needs) returns (λ c. search needs) (λ c. search needs) (λ c. search needs) give-requires
+    (λ c. search needs) (λ c. search needs) part-settle-end
     (λ c κs. search needs) (λ c. search needs) returns-2)

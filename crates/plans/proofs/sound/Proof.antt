@@ -16,16 +16,16 @@ use Rattle.plans.proofs.sound.Tie as tie
 
 -- the tests, one after the other
 abbrev below : tie.Start → Answer
-below s = codeTest (s .args .steps) (now (s .args .codes))
+below s = codeTest (s .args .counts .steps) (now (s .args .codes))
 
 abbrev moved : tie.Start → Answer
 moved s = zeroTest (s .args .closed) (now (s .args .codes))
 
 abbrev waits : tie.Start → Answer
-waits s = waitTest (s .args .tracks) (s .args .steps) (now (s .args .codes))
+waits s = waitTest (s .args .counts .tracks) (s .args .counts .steps) (now (s .args .codes))
 
 abbrev fulls : tie.Start → Answer
-fulls s = fullTest (s .args .room) (s .args .steps) (now (s .args .codes))
+fulls s = fullTest (s .args .counts .room) (s .args .counts .steps) (now (s .args .codes))
 
 -- where each test was passed
 abbrev start : tie.Else1 → tie.Start
@@ -74,7 +74,8 @@ kept-requires c κs =
     let coded = coded-at c in
     let at = start coded in
     let tested = coded .before .before .codes in
-    (at .pre .0, at .pre .1, codes-passed (at .args .steps) (now (at .args .codes)) .0 (sym (ap (λ (v : Answer). v .number) (tested .ensures)) ∙ coded .if1 .left))
+    let passed = sym (ap (λ (v : Answer). v .number) (tested .ensures)) ∙ coded .if1 .left in
+    (at .pre .0, at .pre .1, codes-passed (at .args .counts .steps) (now (at .args .codes)) .0 passed)
 
 returns-3 : tie.Need-returns-3
 returns-3 c =
@@ -91,10 +92,10 @@ returns-4 c =
     let moved = moved-at (c .before) in
     let s = start (coded-at moved) in
     let tested = c .before .before .before .kept in
-    let above = firstAbove (s .args .room) (now (s .args .codes)) (s .args .steps) in
+    let above = firstAbove (s .args .counts .room) (now (s .args .codes)) (s .args .counts .steps) in
     behind-zeros moved
     (goes-on (waits s) (fulls s ∷ []) (says 0 0 0) (tested .result) (tested .ensures) (c .full .result) (c .before .if3 .left)
-    (c .full .ensures ∙ last-is (leb (s .args .steps) above) (says 6 above (pullOf (now (s .args .codes)) above)) (suc-ne-zero 5)))
+    (c .full .ensures ∙ last-is (leb (s .args .counts .steps) above) (says 6 above (pullOf (now (s .args .codes)) above)) (suc-ne-zero 5)))
 
 pub sound-spec : {M : Type 1} → statement M
 sound-spec =

@@ -1,6 +1,5 @@
 -- The proof of `derived`: what derive refuses is told, and the plan that it derives is drawn.
 use mathlib.Core.Bool.{false}
-use Prim.Native.Nat.{ℕ}
 use denote.Ref.{now}
 use lib.ListN.{length}
 use borrow.Author.Needs.{needs}

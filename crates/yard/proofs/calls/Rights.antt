@@ -2,30 +2,30 @@
 use Prim.Native.Nat.{ℕ, zero, suc, _+_, _-_, _≤_, _<_, _^_}
 use mathlib.Core.Path.{_≡_, refl, sym, ap, _∙_, subst}
 use mathlib.Core.Logic.{_⊎_, inl, inr, ⊎-elim, _↔_, Iff·trans}
-use mathlib.Core.Bool.{Bool, true, false, cond, not, _&&_, _||_}
-use mathlib.Core.List.{List, [], _∷_}
+use mathlib.Core.Bool.{Bool, true, false, not, _&&_, _||_}
+use mathlib.Core.List.{List}
 use native.Mathlib.Nat.{le-refl}
 use native.Mathlib.Omega.{arith}
 use lib.Dec.{leb, ltb, eqb}
 use lib.ListN.{length, getD, take}
 use lib.Seq.{getD-take, length-take-le}
 use borrow.Author.Tests.{leb-true, le-leb, leb-false, lt-leb, ltb-true, lt-ltb, ltb-false, eqb-true, eq-eqb}
-use Rattle.yard.specs.Limits.{Limits}
 use Rattle.yard.specs.Words.{count, listed, place, first}
 use Rattle.yard.specs.Night.{Night, Plan, sum, itemOf, pair, broken}
 use Rattle.yard.specs.Replay.{bit, codeOf, pulled, pullSize, early, lowestEarly, firstEarly, firstOverfull, inOrder}
 use Rattle.yard.specs.Derived.{stepsNeeded, derivedCodes, derivedPlan}
 use Rattle.yard.specs.Demands.{Least, Within, NoneEmpty, EachOnce, CodesBelow, KeepsClear, NeverEarly, HasRoom, BuildsTrains, Listed}
-use Rattle.yard.specs.Demands.{CodesFormed, Sortable, EmptyTrain, WideCode, ZeroCode, CarAt, MetAt, BadPlace, ListedAt, TakesEarly, EarlyStep, OverfullStep, Ruled, BreaksRule}
+use Rattle.yard.specs.Demands.{CodesFormed, Sortable, EmptyTrain, WideCode, ZeroCode, CarAt, MetAt, BadPlace, ListedAt}
+use Rattle.yard.specs.Demands.{TakesEarly, EarlyStep, OverfullStep, Ruled, BreaksRule}
 use Rattle.yard.specs.Answers.{plain, countAsk, emptyTrain, trainAsk, sumAsk, lengthAsk, bufferAsk, limitAsk}
 use Rattle.yard.specs.Answers.{firstWith, inRange, badPlace, firstBad, firstListing, inboundAsk}
 use Rattle.yard.specs.Answers.{roomAsk, wideCode, codeAsk, codeTest, noZero, zeroAsk, earlyAsk, ruled, unruled, firstUnruled, orderAsk}
 use Rattle.yard.proofs.general.Bools.{split, clash, and-left, and-right, and-both, not-true, not-so}
-use Rattle.yard.proofs.general.First.{first-least, first-hit, first-none, first-fails}
+use Rattle.yard.proofs.general.First.{first-least, first-none, first-fails}
 use Rattle.yard.proofs.general.Order.{place-among}
-use Rattle.yard.proofs.calls.Tests.{passed-exactly, count-passed, sum-passed, none-passed}
+use Rattle.yard.proofs.calls.Tests.{passed-exactly, count-passed, none-passed}
 use Rattle.yard.proofs.yards.Formed.{train-passed, inbound-passed, place-holds, count-at}
-use Rattle.yard.proofs.yards.Plans.{InRange, range-once, pulled-came, early-passed, room-passed}
+use Rattle.yard.proofs.yards.Plans.{InRange, pulled-came, early-passed, room-passed}
 use Rattle.yard.proofs.yards.Building.{order-builds, order-ruled}
 use Rattle.yard.proofs.yards.Clear.{clear-exactly}
 use Rattle.yard.proofs.yards.Least.{least-steps}

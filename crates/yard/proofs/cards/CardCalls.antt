@@ -16,7 +16,7 @@ use Rattle.yard.specs.Limits.{Limits, limits}
 use Rattle.yard.specs.Night.{Plan}
 use Rattle.yard.specs.Answers.{says}
 use Rattle.yard.specs.Bits.{Bytes}
-use Rattle.yard.specs.Card.{layout, card, headLength, headOf, headOn, cardPlan, rightLength, endsRight, writerTests, writerAnswer, Writable}
+use Rattle.yard.specs.Card.{layout, card, headOf, headOn, cardPlan, rightLength, writerTests, writerAnswer, Writable}
 use Rattle.yard.specs.Card.{Writes, readerTests, HeadWithin, Readable, noHead, readerSays, readerVerdict, readerAnswer, judged, Reads}
 use Rattle.yard.proofs.calls.Verdict.{verdict-done, written-accepted}
 use Rattle.yard.proofs.calls.Tests.{items-below, inbound-within, item-le-sum}
@@ -186,7 +186,8 @@ pub written-then-read : {p : Plan} {before : List ℕ} {w : Answer} {after lengt
     → Told p lengths₀ inbound₀ codes₀ r lengths₁ inbound₁ codes₁
 written-then-read {p} {before} {w} {after} {lengths₀} {inbound₀} {codes₀} {r} {lengths₁} {inbound₁} {codes₁} free writes e reads l i c =
     let same : Reads (card p) lengths₀ inbound₀ codes₀ r lengths₁ inbound₁ codes₁ = rw (written-bytes writes e) at reads in
-    let back = written-read-back p (length before) (length lengths₀) (length inbound₀) (length codes₀) free (sym (ap (λ r. r .number) (writes .answer)) ∙ e) l i c in
+    let accepted = sym (ap (λ r. r .number) (writes .answer)) ∙ e in
+    let back = written-read-back p (length before) (length lengths₀) (length inbound₀) (length codes₀) free accepted l i c in
     rw (back .1) at (read-told same (reads-number same ∙ back .0))
 
 -- Read, then written: the bytes that came in go out.

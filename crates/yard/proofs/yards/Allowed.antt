@@ -1,23 +1,27 @@
--- The codes that a night allows: how many there are, F(h) or, where it is closed, F(h) - 1; and number q of them, which is the usable
--- code number q, or number q + 1 where the night is closed.
-use mathlib.Core.Path.{_≡_, refl, sym, ap, _∙_}
+-- The codes that a night allows: how many there are, F(h) or, where it is closed, F(h) - 1; number q of them, which is the usable
+-- code number q, or number q + 1 where the night is closed; and the fewest steps that give enough of them.
+use mathlib.Core.Path.{_≡_, refl, sym, ap, _∙_, subst}
+use mathlib.Core.Logic.{⊎-elim}
 use mathlib.Core.Bool.{Bool, true, false, cond, not, _&&_}
-use mathlib.Core.List.{List, [], _∷_}
+use mathlib.Core.List.{List, _∷_}
 use Prim.Native.Nat.{ℕ, zero, suc, _+_, _-_, _^_, _≤_, _<_}
-use native.Mathlib.Nat.{add-zero}
+use native.Mathlib.Nat.{add-zero, eq-or-lt-of-le}
 use native.Mathlib.Numerals.{add-one}
 use native.Mathlib.Omega.{arith}
-use lib.Dec.{eqb}
+use lib.Dec.{leb, eqb}
 use lib.ListN.{length, getD}
 use lib.Pow.{pow-pos}
-use borrow.Author.Tests.{eq-eqb, ne-eqb}
-use Rattle.yard.specs.Words.{tally, total, keep, upFrom}
-use Rattle.yard.specs.Codes.{usable, usableCodes, allowed, allowedCodes, codeNumber, F}
+use borrow.Author.Tests.{eq-eqb, ne-eqb, leb-true, le-leb}
+use Rattle.yard.specs.Words.{tally, keep, first, upFrom}
+use Rattle.yard.specs.Night.{Night, mostBreaks}
+use Rattle.yard.specs.Codes.{usable, usableCodes, allowed, allowedCodes, codeNumber, F, fewestSteps}
+use Rattle.yard.specs.Derived.{stepsNeeded}
+use Rattle.yard.specs.Demands.{Least}
 use Rattle.yard.proofs.general.Bools.{clash, and-both, and-left, and-right, not-true, same-test}
-use Rattle.yard.proofs.general.Lists.{total-same, keep-same, upFrom-bounds}
+use Rattle.yard.proofs.general.First.{first-le, first-hit, first-least}
+use Rattle.yard.proofs.general.Lists.{keep-same, upFrom-bounds}
 use Rattle.yard.proofs.yards.Codes.{bit-above}
-use Rattle.yard.proofs.yards.Early.{Gaps}
-use Rattle.yard.proofs.yards.Counting.{passing, length-passing, F-counts}
+use Rattle.yard.proofs.yards.Counting.{passing, length-passing, F-counts, F-above, F-rising}
 use Rattle.yard.proofs.yards.Plans.{usable-gaps}
 
 -- ---- usable codes
@@ -118,3 +122,41 @@ module _ (closed : Bool) (W h : ℕ) where
         go : (b : Bool) → getD (cond b above (0 ∷ above)) q 0 ≡ getD (0 ∷ above) (q + tally b) 0
         go true = ap (λ (k : ℕ). getD (0 ∷ above) k 0) (sym (add-one q))
         go false = ap (λ (k : ℕ). getD (0 ∷ above) k 0) (sym (add-zero q))
+
+-- ---- the fewest steps
+
+-- the fewest steps are the least that give more usable codes than there are breaks
+pub fewest-least : (W c : ℕ) → 0 < W → Least (λ h. c < F W h) (fewestSteps W c)
+unfolding fewestSteps
+fewest-least W c pos =
+    record {
+      holds =
+          ⊎-elim
+          (λ e. subst (λ (h : ℕ). c < F W h) (sym e) (F-above W c pos))
+          (λ m. leb-true (suc c) (F W found) (first-hit enough c 0 (omega (arith, m))))
+          (eq-or-lt-of-le within);
+      least = λ h more. ⊎-elim (λ le. le) (λ far. omega (arith, far, within)) (first-least enough c 0 h (omega arith) (le-leb (suc c) (F W h) more));
+    }
+  where
+    enough : ℕ → Bool
+    enough h = leb (suc c) (F W h)
+
+    found : ℕ
+    found = first enough c 0
+
+    within : found ≤ c
+    within = omega (arith, first-le enough c 0)
+
+module _ (n : Night) (pos : 0 < n .tracks) where
+  -- the steps that a night needs, in document 02's words: the least h with F(h), less 1 where the night is closed, at least c + 1
+  pub needed-least : Least (λ h. suc (mostBreaks (n .lengths) (n .inbound)) ≤ F (n .tracks) h - tally (n .closed)) (stepsNeeded n)
+  unfolding stepsNeeded
+  needed-least =
+      let c = mostBreaks (n .lengths) (n .inbound) in
+      let own = fewest-least (n .tracks) (c + tally (n .closed)) pos in
+      record { holds = omega (arith, own .holds); least = λ h more. own .least h (omega (arith, more)) }
+
+-- where the destinations are closed a night needs at most one step more
+pub closed-one-more : (W c : ℕ) → 0 < W → fewestSteps W (suc c) ≤ suc (fewestSteps W c)
+closed-one-more W c pos =
+    fewest-least W (suc c) pos .least (suc (fewestSteps W c)) (omega (arith, fewest-least W c pos .holds, F-rising W (fewestSteps W c) pos))

@@ -1,20 +1,19 @@
 -- A closed night's destination tracks stay clear until the first pull exactly if no car has code 0; the mark asks nothing else of a
 -- plan.
 use mathlib.Core.Path.{_≡_, refl, sym, ap, _∙_, subst}
-use mathlib.Core.Logic.{_⊎_, inl, inr, ⊎-elim, _↔_}
-use mathlib.Core.Bool.{Bool, true, false, cond}
-use mathlib.Core.List.{List, []}
-use Prim.Native.Nat.{ℕ, zero, suc, _+_, _-_, _%_, _^_, _≤_, _<_}
+use mathlib.Core.Logic.{_⊎_, ⊎-elim, _↔_}
+use mathlib.Core.Bool.{Bool, true, cond}
+use Prim.Native.Nat.{ℕ, zero, suc, _+_, _-_, _%_, _^_, _<_}
 use native.Mathlib.Nat.{mod-lt}
 use native.Mathlib.Omega.{arith}
-use lib.Dec.{ltb, eqb}
+use lib.Dec.{eqb}
 use lib.ListN.{length}
 use lib.Pow.{pow-pos}
 use borrow.Author.Tests.{lt-ltb, le-ltb, ne-eqb}
-use Rattle.yard.specs.Words.{count, keep, first}
+use Rattle.yard.specs.Words.{count, first}
 use Rattle.yard.specs.Night.{Plan, trainOf}
 use Rattle.yard.specs.Replay.{bit, nextStep, target, codeOf, destination, yardAt}
-use Rattle.yard.specs.Demands.{Within, Listed, CodesFormed, KeepsClear, ZeroCode}
+use Rattle.yard.specs.Demands.{Within, Listed, CodesFormed, KeepsClear, ZeroCode, NeverEarly, BuildsTrains, Sorts}
 use Rattle.yard.proofs.general.First.{first-least, first-fails}
 use Rattle.yard.proofs.general.Lists.{keep-none}
 use Rattle.yard.proofs.yards.Codes.{bit-above}
@@ -45,8 +44,10 @@ module _ (p : Plan) (f : Listed (p .night .lengths) (p .night .inbound)) (pos : 
       let below : code < 2 ^ p .steps = formed .below car (w .0, omega (arith, w .1, formed .each)) in
       let (k, l, m, set) = some-bit 0 (p .steps) code (omega arith) below (omega (arith, some)) in
       let next = nextStep (p .steps) code 0 in
-      let near : next < p .steps = ⊎-elim (λ le. omega (arith, le, m)) (λ far. omega (arith, far, m)) (first-least (λ k. bit k code) (p .steps - 0) 0 k l set) in
-      subst (λ (b : Bool). cond b (next % p .night .tracks) (destination (p .night) car) < p .night .tracks) (sym (lt-ltb next (p .steps) near)) (mod-lt next pos)
+      let found = first-least (λ k. bit k code) (p .steps - 0) 0 k l set in
+      let near : next < p .steps = ⊎-elim (λ le. omega (arith, le, m)) (λ far. omega (arith, far, m)) found in
+      let rolls : Bool → ℕ = λ b. cond b (next % p .night .tracks) (destination (p .night) car) in
+      subst (λ (b : Bool). rolls b < p .night .tracks) (sym (lt-ltb next (p .steps) near)) (mod-lt next pos)
 
   -- a code that is not 0 is above it
   above : ((car : ℕ) → ZeroCode p car → ⊥) → (car : ℕ) → Within 1 (length (p .night .inbound)) car → p .night .closed ≡ true → 0 < codeOf p car
@@ -82,6 +83,13 @@ module _ (p : Plan) (f : Listed (p .night .lengths) (p .night .inbound)) (pos : 
           let v = came-within (p .night .lengths) (p .night .inbound) f car m in
           ne-eqb (p .night .tracks + t - 1) (goal car) (λ e. omega (arith, goal-other car v (above none car v closed), w .0)))
 
-  -- so in a closed night every car has a code above 0
+  -- so a plan sorts exactly if, where the night is closed, no car has code 0, and else by what an open night asks
+  pub sorts-exactly : Sorts p ↔ (((car : ℕ) → ZeroCode p car → ⊥) × NeverEarly p × BuildsTrains p)
+  sorts-exactly = (
+    λ s. (clear-exactly .0 (s .clear), s .never, s .builds),
+    λ (none, never, builds). record { codes = formed; clear = clear-exactly .1 none; never = never; builds = builds },
+  )
+
+  -- and in a closed night every car has a code above 0
   pub clear-some : KeepsClear p → (car : ℕ) → Within 1 (length (p .night .inbound)) car → p .night .closed ≡ true → 0 < codeOf p car
   clear-some keeps = above (clear-exactly .0 keeps)

@@ -1,18 +1,17 @@
 -- F(h) is how many codes below 2^h are usable on W tracks, for every W and h: counted from the top bit, as in a(h) = F(h) - F(h - W).
 use mathlib.Core.Path.{_≡_, refl, sym, ap, ap₂, _∙_, subst}
 use mathlib.Core.Logic.{_⊎_, inl, inr, ⊎-elim, _↔_}
-use mathlib.Core.Bool.{Bool, true, false, cond, not, _&&_, _||_}
-use mathlib.Core.List.{List, [], _∷_}
+use mathlib.Core.Bool.{Bool, true, false, cond, not}
+use mathlib.Core.List.{List}
 use Prim.Native.Nat.{ℕ, zero, suc, _+_, _-_, _*_, _/_, _%_, _^_, _≤_, _<_}
-use native.Mathlib.Nat.{le-of-suc-le-suc, sub-le, lt-of-lt-of-le, le-add-right, mod-lt, le-refl, add-zero, zero-add, add-suc, suc-add, add-assoc}
-use native.Mathlib.Nat.{two-pow-succ, eq-or-lt-of-le, div-add-mod', sub-zero, suc-sub-suc, one-mul, add-comm, pow-succ', add-mul-div-right}
+use native.Mathlib.Nat.{le-of-suc-le-suc, sub-le, lt-of-lt-of-le, le-add-right, mod-lt, le-refl, add-zero, zero-add, add-suc, suc-add}
+use native.Mathlib.Nat.{two-pow-succ, eq-or-lt-of-le, sub-zero, suc-sub-suc, one-mul, add-comm, pow-succ', add-mul-div-right}
 use native.Mathlib.Nat.{add-mul-mod-self-left}
 use native.Mathlib.Omega.{arith}
-use lib.Dec.{ltb, leb, eqb, lit<}
-use lib.ListN.{length, take, getD}
+use lib.Dec.{eqb}
+use lib.ListN.{length, take}
 use lib.Pow.{pow-pos, pow-mono, pow-add, high}
 use lib.Seq.{take-nil}
-use borrow.Author.Tests.{lt-ltb, le-ltb, le-leb, lt-leb, leb-true, ltb-true, ltb-false, leb-false}
 use Rattle.yard.specs.Words.{tally, total, count, keep, first, upFrom}
 use Rattle.yard.specs.Night.{sum}
 use Rattle.yard.specs.Replay.{bit}
@@ -21,7 +20,7 @@ use Rattle.yard.proofs.general.Bools.{clash, same-test, not-so}
 use Rattle.yard.proofs.general.Numbers.{le-or-lt, below-suc}
 use Rattle.yard.proofs.general.First.{first-from, first-le, first-none, first-hit}
 use Rattle.yard.proofs.general.Lists.{total-same, total-length, total-keep, total-none, upFrom-bounds}
-use Rattle.yard.proofs.yards.Codes.{low-suc, low-all, bit-above, tally-bit, total-last}
+use Rattle.yard.proofs.yards.Codes.{low-suc, low-all, bit-above}
 use Rattle.yard.proofs.yards.Early.{Gaps, highest}
 
 -- ---- the bits of a number with a top bit more
@@ -112,6 +111,10 @@ pub F-above : (W h : ℕ) → 0 < W → h < F W h
 F-above W zero pos = omega arith
 F-above zero (suc h) pos = absurd (omega arith)
 F-above (suc W) (suc h) pos = omega (arith, F-above (suc W) h pos, a-pos W h)
+
+pub F-rising : (W h : ℕ) → 0 < W → F W h < F W (suc h)
+F-rising zero h pos = absurd (omega arith)
+F-rising (suc W) h pos = omega (arith, a-pos W h)
 
 -- ---- the gap rule with a step more
 

@@ -1,31 +1,27 @@
 -- A plan by its codes, and the derived plan: its codes are usable, rise at each break, and so pull no car early and build the trains.
 use mathlib.Core.Path.{_≡_, sym, ap, ap₂, _∙_, subst}
-use mathlib.Core.Logic.{_⊎_, inl, inr, ⊎-elim}
-use mathlib.Core.Bool.{Bool, true, false, cond, not, _&&_}
-use mathlib.Core.List.{List, [], _∷_, map}
+use mathlib.Core.Bool.{Bool, true, false, cond, not}
+use mathlib.Core.List.{List, _∷_, map}
 use Prim.Native.Nat.{ℕ, zero, suc, _+_, _-_, _^_, _≤_, _<_}
-use native.Mathlib.Nat.{le-refl, eq-or-lt-of-le, add-zero, add-suc, suc-add, suc-inj}
+use native.Mathlib.Nat.{add-zero, add-suc, suc-add}
 use native.Mathlib.Omega.{arith}
-use lib.Dec.{leb, ltb, eqb}
-use lib.ListN.{length, getD, take, length-map}
-use borrow.Author.Tests.{leb-true, le-leb, ltb-true, lt-ltb, eqb-true}
-use Rattle.yard.specs.Words.{tally, count, keep, first, upFrom}
+use lib.ListN.{length, getD, length-map}
+use borrow.Author.Tests.{le-leb, lt-ltb, eqb-true}
+use Rattle.yard.specs.Words.{tally, keep, upFrom}
 use Rattle.yard.specs.Night.{Night, Plan, cars, itemOf, trainOf, firstCar, pair, broken, breaks, breaksIn, breaksBefore, mostBreaks}
 use Rattle.yard.specs.Replay.{codeOf}
-use Rattle.yard.specs.Codes.{allowed, allowedCodes, codeNumber, F, fewestSteps}
+use Rattle.yard.specs.Codes.{allowed, allowedCodes, codeNumber, F}
 use Rattle.yard.specs.Derived.{stepsNeeded, derivedCodes, derivedPlan}
 use Rattle.yard.specs.Answers.{ruled, unruled}
-use Rattle.yard.specs.Demands.{Within, Listed, CodesFormed, KeepsClear, NeverEarly, BuildsTrains, Sorts}
-use Rattle.yard.proofs.general.Bools.{split, clash, and-left, and-right, not-so, not-true}
-use Rattle.yard.proofs.general.First.{first-le, first-hit}
+use Rattle.yard.specs.Demands.{Within, Listed, CodesFormed, KeepsClear, NeverEarly, Sorts}
+use Rattle.yard.proofs.general.Bools.{clash, and-left, and-right, not-so, not-true}
 use Rattle.yard.proofs.yards.Early.{Gaps}
 use Rattle.yard.proofs.general.Lists.{count-kept, count-upFrom-in, upFrom-bounds, length-upFrom}
-use Rattle.yard.proofs.yards.Counting.{F-above}
-use Rattle.yard.proofs.yards.Trains.{firstCar-suc, itemOf-suc, most-above, breaks-suc}
+use Rattle.yard.proofs.yards.Trains.{most-above, breaks-suc}
 use Rattle.yard.proofs.yards.Formed.{count-at}
 use Rattle.yard.proofs.yards.Plans.{never-gaps, usable-gaps}
 use Rattle.yard.proofs.yards.Building.{train-cars, came-within, builds-ruled}
-use Rattle.yard.proofs.yards.Allowed.{allowed-usable, allowed-some, F-allowed}
+use Rattle.yard.proofs.yards.Allowed.{allowed-usable, allowed-some, F-allowed, fewest-least}
 use Rattle.yard.proofs.yards.Clear.{clear-exactly}
 
 -- ---- lists by number
@@ -137,18 +133,6 @@ module _ (closed : Bool) (W h : ℕ) (pos : 0 < W) where
   unfolding codeNumber allowedCodes
   codeNumber-rising q r l m = kept-rising (allowed closed W h) 0 (2 ^ h) q r l (omega (arith, F-allowed closed W h pos))
 
--- the fewest steps give a code for each number of breaks
-pub fewest-enough : (W c : ℕ) → 0 < W → c < F W (fewestSteps W c)
-unfolding fewestSteps
-fewest-enough W c pos =
-    ⊎-elim
-    (λ e. subst (λ (h : ℕ). c < F W h) (sym e) (F-above W c pos))
-    (λ m. leb-true (suc c) (F W (first (λ h. leb (suc c) (F W h)) c 0)) (first-hit (λ h. leb (suc c) (F W h)) c 0 (omega arith)))
-    (eq-or-lt-of-le (within (first-le (λ h. leb (suc c) (F W h)) c 0)))
-  where
-    within : first (λ h. leb (suc c) (F W h)) c 0 ≤ 0 + c → first (λ h. leb (suc c) (F W h)) c 0 ≤ c
-    within l = omega arith
-
 -- ---- breaks along a train
 
 pub breaks-mono : (inbound : List ℕ) (j d n : ℕ) → breaks inbound j n ≤ breaks inbound j (n + d)
@@ -203,7 +187,7 @@ module _ (n : Night) (f : Listed (n .lengths) (n .inbound)) where
     pub breaks-fit : (car : ℕ) → Within 1 (length (n .inbound)) car
         → breaksBefore (n .lengths) (n .inbound) car + tally (n .closed) < F (n .tracks) (stepsNeeded n)
     unfolding stepsNeeded
-    breaks-fit car w = omega (arith, before-most car w, fewest-enough (n .tracks) (mostBreaks (n .lengths) (n .inbound) + tally (n .closed)) pos)
+    breaks-fit car w = omega (arith, before-most car w, fewest-least (n .tracks) (mostBreaks (n .lengths) (n .inbound) + tally (n .closed)) pos .holds)
 
     pub derived-sorts : Sorts (derivedPlan n)
     unfolding derivedPlan derivedCodes

@@ -1,31 +1,25 @@
 -- Least steps: a plan that pulls no car early and builds the trains has at least the fewest steps, and the derived plan of that many steps does both.
-use mathlib.Core.Path.{_≡_, refl, sym, ap, ap₂, _∙_, subst}
-use mathlib.Core.Logic.{_⊎_, inl, inr, ⊎-elim, _↔_}
-use mathlib.Core.Bool.{Bool, true, false, cond, not, _&&_}
-use mathlib.Core.List.{List, [], _∷_, map}
+use mathlib.Core.Path.{_≡_, refl, sym, ap}
+use mathlib.Core.Bool.{Bool, true, false}
+use mathlib.Core.List.{List}
 use Prim.Native.Nat.{ℕ, zero, suc, _+_, _-_, _^_, _≤_, _<_}
-use native.Mathlib.Nat.{le-refl, le-trans, eq-or-lt-of-le, add-zero, add-suc, suc-add, zero-add, suc-inj}
+use native.Mathlib.Nat.{add-suc, zero-add}
 use native.Mathlib.Omega.{arith}
-use lib.Dec.{leb, ltb, eqb}
-use lib.ListN.{length, getD, take, length-map}
-use borrow.Author.Tests.{leb-true, le-leb, ltb-true, lt-ltb, eqb-true}
-use Rattle.yard.specs.Words.{tally, total, count, keep, first, upFrom}
-use Rattle.yard.specs.Night.{Night, Plan, cars, sum, itemOf, trainOf, firstCar, carsOf, pair, broken, breaks, breaksIn, breaksBefore, mostBreaks}
-use Rattle.yard.specs.Replay.{bit, codeOf}
+use lib.ListN.{length}
+use borrow.Author.Tests.{leb-true, ltb-true}
+use Rattle.yard.specs.Words.{tally, count, upFrom}
+use Rattle.yard.specs.Night.{Plan, itemOf, trainOf, firstCar, broken, breaks, breaksIn, mostBreaks}
+use Rattle.yard.specs.Replay.{codeOf}
 use Rattle.yard.specs.Codes.{allowed, F, fewestSteps}
-use Rattle.yard.specs.Derived.{stepsNeeded, derivedCodes, derivedPlan}
-use Rattle.yard.specs.Answers.{ruled, unruled}
-use Rattle.yard.specs.Demands.{Within, Listed, CodesFormed, NeverEarly, BuildsTrains, Sorts}
-use Rattle.yard.proofs.general.Bools.{split, clash, and-left, and-right, not-so, not-true}
-use Rattle.yard.proofs.general.Numbers.{le-or-lt}
-use Rattle.yard.proofs.general.First.{first-from, first-le, first-hit, first-least}
-use Rattle.yard.proofs.general.Lists.{total-small, tally-small, count-kept, count-upFrom-in, upFrom-bounds, length-upFrom}
+use Rattle.yard.specs.Derived.{stepsNeeded}
+use Rattle.yard.specs.Answers.{ruled}
+use Rattle.yard.specs.Demands.{Within, Listed, Sorts}
+use Rattle.yard.proofs.general.Lists.{total-small, tally-small, upFrom-bounds, length-upFrom}
 use Rattle.yard.proofs.yards.Codes.{total-next}
 use Rattle.yard.proofs.yards.Counting.{passing, total-split}
-use Rattle.yard.proofs.yards.Trains.{firstCar-suc, most-above, most-reached, breaks-suc, breaksBefore-train}
-use Rattle.yard.proofs.yards.Formed.{count-at}
+use Rattle.yard.proofs.yards.Trains.{most-reached, breaks-suc}
 use Rattle.yard.proofs.yards.Plans.{never-gaps, usable-gaps}
-use Rattle.yard.proofs.yards.Allowed.{usable-allowed, allowed-count}
+use Rattle.yard.proofs.yards.Allowed.{usable-allowed, allowed-count, fewest-least}
 use Rattle.yard.proofs.yards.Building.{cars-train, came-once, ruled-of-builds}
 use Rattle.yard.proofs.yards.Clear.{clear-some}
 
@@ -146,6 +140,4 @@ module _ (p : Plan) (f : Listed (p .night .lengths) (p .night .inbound)) (pos : 
           → fewestSteps (p .night .tracks) c ≤ p .steps
       reached r =
           let b = upFrom-bounds (r .0) 1 (length lengths) (r .1) in
-          let enough : c < F (p .night .tracks) (p .steps) = omega (arith, r .2, train-breaks (r .0) (b .0, omega (arith, b .1))) in
-          ⊎-elim (λ le. le) (λ far. omega (arith, first-le (λ h. leb (suc c) (F (p .night .tracks) h)) c 0))
-          (first-least (λ h. leb (suc c) (F (p .night .tracks) h)) c 0 (p .steps) (omega arith) (le-leb (suc c) (F (p .night .tracks) (p .steps)) enough))
+          fewest-least (p .night .tracks) c pos .least (p .steps) (omega (arith, r .2, train-breaks (r .0) (b .0, omega (arith, b .1))))
