@@ -212,9 +212,9 @@ pub fn replay(
         return listed;
     }
     let fullest = sorting::fullest(codes, counts.steps);
-    let replayed = sound(codes, fullest, closed, counts);
-    if replayed.number != 0 {
-        return replayed;
+    let checked = sound(codes, fullest, closed, counts);
+    if checked.number != 0 {
+        return checked;
     }
     stand(
         lengths,
