@@ -5,32 +5,34 @@ use mathlib.Core.List.{List, _++_, map, map-map}
 use Prim.Native.Nat.{ℕ, _+_, _-_, _≤_, _<_}
 use native.Mathlib.Nat.{sub-zero}
 use native.Mathlib.Omega.{arith}
-use lib.ListN.{length, getD, take, length-append}
-use lib.Seq.{take-at}
+use lib.ListN.{length, take, drop, length-append, length-drop}
+use lib.Seq.{take-at, drop-append-le}
 use Rattle.yard.specs.Words.{tally}
 use Rattle.yard.specs.Night.{Night, cars, breaksBefore}
-use Rattle.yard.specs.Codes.{F, usableCodes, codeNumber, fewestSteps}
+use Rattle.yard.specs.Codes.{F, usableCodes, allowedCodes, codeNumber, fewestSteps}
 use Rattle.yard.specs.Derived.{stepsNeeded, derivedCodes}
 use Rattle.yard.specs.Demands.{Listed}
-use Rattle.yard.proofs.yards.Allowed.{F-usable, allowed-number}
+use Rattle.yard.proofs.general.Lists.{tally-small}
+use Rattle.yard.proofs.yards.Counting.{F-above}
+use Rattle.yard.proofs.yards.Allowed.{F-usable, allowed-drop}
 use Rattle.yard.proofs.yards.DerivedPlan.{map-item, length-by-car, derived-length, breaks-fit}
 use Rattle.scan.specs.Front.{Under, Front}
-use Rattle.scan.proofs.Front.{front-item, front-fits, front-behind}
 use Rattle.breaks.specs.Numbers.{Numbers}
 
--- the number at hand is as it came, so the table has its code
-module _ (closed : Bool) (W h : ℕ) (pos : 0 < W) {s table numbers done now : List ℕ} {r i : ℕ} (codes : Front (usableCodes W h) s r table)
-    (below : Under (F W h - tally closed) numbers) (l : i < length numbers) (held : Front done numbers i now) where
-  coded-below : getD now i 0 + tally closed < r
-  coded-below = omega (arith, below i l, front-behind held, codes .number, F-usable W h pos)
+-- the table behind the codes that are not allowed has the allowed ones
+module _ (closed : Bool) (W h : ℕ) (pos : 0 < W) {s table : List ℕ} {r first : ℕ} (codes : Front (usableCodes W h) s r table)
+    (is : first ≡ tally closed) where
+  pub first-within : first ≤ r
+  first-within = omega (arith, is, tally-small closed, codes .number, F-usable W h pos, F-above W h pos)
 
-  pub number-fits : getD now i 0 + tally closed < length table
-  number-fits = omega (arith, coded-below, front-fits codes)
-
-  pub number-code : getD table (getD now i 0 + tally closed) 0 ≡ codeNumber closed W h (getD numbers i 0)
-  number-code =
-      front-item codes (getD now i 0 + tally closed) coded-below ∙
-      (ap (λ (q : ℕ). getD (usableCodes W h) (q + tally closed) 0) (front-behind held) ∙ sym (allowed-number closed W h pos (getD numbers i 0)))
+  pub part-allowed : take (r - first) (drop first table) ≡ allowedCodes closed W h
+  part-allowed =
+      let items = usableCodes W h in
+      let less : first ≤ length items = omega (arith, first-within, codes .number) in
+      ap (λ (l : List ℕ). take (r - first) (drop first l)) (codes .listed) ∙
+      (ap (take (r - first)) (drop-append-le first items (drop (length items) s) less) ∙
+      (take-at (drop first items) (drop (length items) s) (r - first) (omega (arith, codes .number, length-drop first items)) ∙
+      (ap (λ (k : ℕ). drop k items) is ∙ sym (allowed-drop closed W h pos))))
 
 module _ (n : Night) (f : Listed (n .lengths) (n .inbound)) (pos : 0 < n .tracks) where
   pub steps-needed : {m more steps : ℕ} {list : List ℕ} → Numbers (n .lengths) (n .inbound) m list → more ≡ tally (n .closed)

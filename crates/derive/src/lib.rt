@@ -5,7 +5,7 @@ ghost use mathlib.Core.Path.{_≡_};
 ghost use mathlib.Core.Bool.{false};
 ghost use mathlib.Core.List.{map};
 ghost use Prim.Native.Nat.{_-_, _≤_, _<_};
-ghost use lib.ListN.{length};
+ghost use lib.ListN.{length, getD};
 ghost use Rattle.yard.specs.Words.{tally};
 ghost use Rattle.yard.specs.Codes.{F, codeNumber};
 ghost use Rattle.yard.specs.Limits.{limits};
@@ -16,18 +16,26 @@ ghost use Rattle.yard.specs.Demands.{Within};
 ghost use Rattle.scan.specs.Front.{Under};
 ghost use Rattle.derive.specs.Plans.{firstTests, Settles, Planned};
 
+// Puts item number q of a list in the place of each number q.
+fn look_up(items: &[u16], numbers: &mut [u16])
+    requires { ⌜ Under (length (now items)) (now numbers) ⌝ }
+    ensures { λ _. ⌜ now (numbers .exit) ≡ map (λ q. getD (now (items .entry)) q 0) (now (numbers .entry)) ⌝ }
+{
+    for i in 0..numbers.len() {
+        let q = numbers[i] as usize;
+        numbers[i] = items[q];
+    }
+}
+
 // Puts the allowed code number q in the place of each number q: the usable code number q or, where the night is closed, number q + 1.
 fn give(closed: bool, tracks: usize, steps: usize, numbers: &mut [u16])
     requires { ⌜ Within 1 (limits .tracks) tracks × (steps ≤ limits .steps) × Under (F tracks steps - tally closed) (now numbers) ⌝ }
     ensures { λ _. ⌜ now (numbers .exit) ≡ map (codeNumber closed tracks steps) (now (numbers .entry)) ⌝ }
 {
     let mut table = [0u16; codes::CODES];
-    codes::usable_codes(tracks, steps, &mut table);
+    let codes = codes::usable_codes(tracks, steps, &mut table);
     let first = scan::tally(closed) as usize;
-    for i in 0..numbers.len() {
-        let q = numbers[i] as usize;
-        numbers[i] = table[q + first];
-    }
+    look_up(&table[first..codes], numbers);
 }
 
 // 6 for the codes of a plan, or else its steps and passes, with the codes written.

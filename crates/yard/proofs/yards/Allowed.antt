@@ -9,7 +9,8 @@ use native.Mathlib.Nat.{add-zero, eq-or-lt-of-le}
 use native.Mathlib.Numerals.{add-one}
 use native.Mathlib.Omega.{arith}
 use lib.Dec.{leb, eqb}
-use lib.ListN.{length, getD}
+use lib.ListN.{length, getD, drop}
+use lib.Seq.{getD-drop}
 use lib.Pow.{pow-pos}
 use borrow.Author.Tests.{eq-eqb, ne-eqb, leb-true, le-leb}
 use Rattle.yard.specs.Words.{tally, keep, first, upFrom}
@@ -113,15 +114,18 @@ module _ (closed : Bool) (W h : ℕ) where
     unfolding allowedCodes
     allowed-count = omega (arith, counted, length-passing (allowed closed W h) 0 (2 ^ h))
 
-    -- the allowed code number q is the usable code number q, or number q + 1 where the night is closed
-    pub allowed-number : (q : ℕ) → codeNumber closed W h q ≡ getD (usableCodes W h) (q + tally closed) 0
-    unfolding codeNumber
-    allowed-number q =
-        ap (λ (l : List ℕ). getD l q 0) allowed-is ∙ (go closed ∙ sym (ap (λ (l : List ℕ). getD l (q + tally closed) 0) usable-is))
+    -- the allowed codes are the usable ones, from the second on where the night is closed
+    pub allowed-drop : allowedCodes closed W h ≡ drop (tally closed) (usableCodes W h)
+    allowed-drop = allowed-is ∙ (go closed ∙ sym (ap (drop (tally closed)) usable-is))
       where
-        go : (b : Bool) → getD (cond b above (0 ∷ above)) q 0 ≡ getD (0 ∷ above) (q + tally b) 0
-        go true = ap (λ (k : ℕ). getD (0 ∷ above) k 0) (sym (add-one q))
-        go false = ap (λ (k : ℕ). getD (0 ∷ above) k 0) (sym (add-zero q))
+        go : (b : Bool) → cond b above (0 ∷ above) ≡ drop (tally b) (0 ∷ above)
+        go true = refl
+        go false = refl
+
+    -- so the allowed code number q is the usable code number q, or number q + 1 where the night is closed
+    pub allowed-number : (q : ℕ) → codeNumber closed W h q ≡ getD (usableCodes W h) (tally closed + q) 0
+    unfolding codeNumber
+    allowed-number q = ap (λ (l : List ℕ). getD l q 0) allowed-drop ∙ getD-drop (tally closed) (usableCodes W h) q 0
 
 -- ---- the fewest steps
 
