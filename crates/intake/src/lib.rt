@@ -157,11 +157,14 @@ pub fn codes(codes: &[u16], steps: usize) -> Answer
     answer(0, 0, 0)
 }
 
-// 14: no code 0 in a closed night, or else the first car with it.
+// 14: no code 0 in a closed night, or else the first car with it. Only where there is one is it looked for.
 pub fn zeros(codes: &[u16], closed: bool) -> Answer
     ensures { λ r. ⌜ r ≡ zeroTest closed (now (codes .entry)) ⌝ }
 {
     if closed {
+        if scan::none_with(0, codes) {
+            return answer(0, 0, 0);
+        }
         let zero = scan::first_with(0, codes);
         return test(codes.len() < zero, 14, zero);
     }

@@ -1,10 +1,11 @@
-// One pass over a list of numbers: its sum, its largest item, the first place of a number, and the first item that is too large.
+// One pass over a list of numbers: its sum, its largest item, a number that no item is, its first place, and the first item that is too large.
 ghost use mathlib.Core.Path.{_≡_};
 ghost use Prim.Native.Nat.{max, _≤_};
-ghost use lib.Dec.{leb};
+ghost use mathlib.Core.Bool.{not};
+ghost use lib.Dec.{leb, eqb};
 ghost use lib.ListN.{length};
 ghost use Rattle.yard.specs.Limits.{limits};
-ghost use Rattle.yard.specs.Words.{tally, most, first};
+ghost use Rattle.yard.specs.Words.{tally, most, every, first};
 ghost use Rattle.yard.specs.Night.{sum, itemOf};
 ghost use Rattle.yard.specs.Answers.{firstWith};
 
@@ -30,6 +31,17 @@ pub fn first_with(number: u16, items: &[u16]) -> usize
         }
     }
     items.len() + 1
+}
+
+// No item is this number. No branch stands in the loop, so that it takes many items at a time.
+pub fn none_with(number: u16, items: &[u16]) -> bool
+    ensures { λ r. ⌜ r ≡ every (λ x. not (eqb x number)) (now (items .entry)) ⌝ }
+{
+    let mut none = true;
+    for k in 0..items.len() {
+        none = none & (items[k] != number);
+    }
+    none
 }
 
 // 1 for true, 0 for false.

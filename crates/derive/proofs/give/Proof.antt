@@ -33,7 +33,8 @@ within c =
 allowed : (c : tie.After-tally) →
     let entry = start c in
     let called = c .before .before .usable-codes in
-    take (called .result - c .tally .result) (drop (c .tally .result) (called .last .1 .1 .0)) ≡ allowedCodes (entry .args .closed) (entry .args .tracks) (entry .args .steps)
+    take (called .result - c .tally .result) (drop (c .tally .result) (called .last .1 .1 .0)) ≡
+    allowedCodes (entry .args .closed) (entry .args .tracks) (entry .args .steps)
 allowed c =
     let entry = start c in
     let called = c .before .before .usable-codes in
