@@ -96,7 +96,7 @@ def write_card(plan: Plan) -> bytes:
     A closed night raises `InputError` before any refusal: document 01 has no number for it.
     """
     *taken, _, counts = _plan(plan)
-    needs_open(plan.night)
+    needs_open(plan.night)  # what is no list, number or mark at all has been told by now
     card = array("B", bytes(CARD_BYTES))
     answer = library().altairpeg_write(*taken, counts, card, CARD_BYTES)
     if answer.number:

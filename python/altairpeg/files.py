@@ -58,6 +58,8 @@ def _card_plan(name: str) -> Plan:
     if line:
         number, a, b = map(int, line.groups())
         raise Refusal(number, a, b)
+    if data.lstrip().startswith(b"{"):  # which would be a card of edition 7
+        raise InputError(f"{name} looks like JSON, not like a card: the name of a JSON file ends in .json")
     return read_card(data)
 
 
@@ -71,14 +73,25 @@ def standard_input(most: int = -1) -> bytes:
 def read_object(name: str) -> dict[str, Any]:
     """The object in a JSON file, or in what comes from standard input for -."""
     try:
-        read = json.loads(standard_input() if name == "-" else Path(name).read_bytes())
+        read = json.loads(standard_input() if name == "-" else Path(name).read_bytes(), object_pairs_hook=_once)
     except OSError as trouble:
         raise FileError(trouble.errno, trouble.strerror, name) from None
+    except InputError as trouble:
+        raise InputError(f"{name}: {trouble}") from None
     except (ValueError, RecursionError) as trouble:
         raise InputError(f"{name} is not JSON: {trouble}") from None
     if not isinstance(read, dict):
         raise InputError(f"{name} has {shown(read)}, not an object with {', '.join(NIGHT)}")
     return read
+
+
+def _once(pairs: list[tuple[str, Any]]) -> dict[str, Any]:
+    """An object in which each name stands once: of two marks Python would keep the last without a word."""
+    names = [name for name, _ in pairs]
+    twice = [name for at, name in enumerate(names) if name in names[:at]]
+    if twice:
+        raise InputError(f"{shown(twice[0])} stands twice in one object")
+    return dict(pairs)
 
 
 def night_of(named: dict[str, Any]) -> Night:
@@ -116,5 +129,5 @@ def _json(plan: Plan) -> bytes:
 def headline(plan: Plan) -> str:
     """Steps, tracks, room, cars and trains, as nightcard prints them; a closed night, of which it gets no card, says so."""
     night = plan.night
-    closed = " closed" if night.mark == Mark.CLOSED else ""
+    closed = " mark closed" if night.mark == Mark.CLOSED else ""
     return f"steps {plan.steps} tracks {night.tracks} room {night.room} cars {len(night.inbound)} trains {len(night.lengths)}{closed}"

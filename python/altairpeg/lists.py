@@ -52,7 +52,7 @@ def count(name: str, given: SupportsIndex) -> int:
 def mark(given: object) -> int:
     """The number of a mark, from a `Mark` or its word. True or 1 is refused: neither says which of the two it means."""
     if not isinstance(given, str) or given not in _MARKS:
-        raise InputError(f"mark is {shown(given)}, not Mark.OPEN, Mark.CLOSED, 'open' or 'closed'")
+        raise InputError(f"mark is {shown(given)}, not 'open' or 'closed'")
     return _MARKS[given]  # type: ignore[index]  # a word finds its mark, which it equals
 
 

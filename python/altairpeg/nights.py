@@ -27,6 +27,8 @@ class Mark(str, Enum):
     OPEN = "open"
     CLOSED = "closed"
 
+    __str__ = str.__str__
+
 
 class Night(NamedTuple):
     """The lengths of the outbound trains, the inbound order of the cars, the sorting tracks, the room on each, and the mark.

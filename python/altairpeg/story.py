@@ -91,7 +91,8 @@ class Story(NamedTuple):
         if self.bars(stage):
             return f"{trains} trains {BARRED}"
         first = stage == 0 or self.bars(stage - 1)
-        return f"{trains} other trains {'empty' if first else 'as before'}"
+        other = "" if trains == len(self.plan.night.lengths) else "other "
+        return f"{trains} {other}trains {'empty' if first else 'as before'}"
 
     def stopped(self) -> list[int]:
         """The cars that the first roll-in would send to a barred destination, in its order."""

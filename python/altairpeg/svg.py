@@ -261,13 +261,13 @@ def _legend(sheet: Sheet) -> None:
     _colours(sheet)
     story, names = sheet.story, "" if sheet.scale.in_full else " (S0 is track 0, T1 is train 1)"
     wrong = f"would roll to a track that is {BARRED}" if story.stopped() else "stands wrong"
-    signs = [
+    stages = [
         "The front of each track is on the left; grey is its room.",
         f"Yellow: the track that the next step pulls, and below its cars where they roll{names}.",
         "Thick frame: has just rolled in.",
-        f"Bars: a destination track, {BARRED}." if story.yards and story.bars(0) and _shown_trains(story, 0) else "",
-        f"Red frame and !: {wrong}." if story.refusal else "",
+        f"Bars: a destination track, {BARRED}." if story.bars(0) and _shown_trains(story, 0) else "",
     ]
+    signs = [*(stages if story.yards else []), f"Red frame and !: {wrong}." if story.refusal else ""]
     sheet.paragraph(" ".join(filter(None, signs)), 12, 'fill="#555"')
 
 

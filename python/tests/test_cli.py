@@ -13,7 +13,7 @@ from support import CARD, CLOSED, CLOSED_CODES, CODES, DISORDERED, INBOUND, PYTH
 NIGHT = ("--lengths", "6", "--inbound", "3,6,1,5,2,4", "--mark", "open", "--tracks", "2", "--room", "3")
 FIRST = {"lengths": [6], "inbound": INBOUND, "tracks": 2, "room": 3, "mark": "open"}
 HEAD = "steps 2 tracks 2 room 3 cars 6 trains 1"
-CLOSED_HEAD = "steps 3 tracks 2 room 4 cars 6 trains 1 closed"
+CLOSED_HEAD = "steps 3 tracks 2 room 4 cars 6 trains 1 mark closed"
 CLOSED_NIGHT = n(room=4, mark=CLOSED)
 CLOSED_PLAN = Plan(CLOSED_NIGHT, 3, CLOSED_CODES)
 NO_CARD = "altairpeg: a closed night goes on no card yet: a card of edition 1 means an open one\n"
@@ -210,7 +210,7 @@ class JsonFiles(Scratch):
         for command in (("derive",), ("card",), *OF_PLANS):
             self.ran(altairpeg(*command, unmarked), 2, "", NO_MARK)
             for mark in (True, 1, None, "shut"):
-                said = f"altairpeg: mark is {mark!r}, not Mark.OPEN, Mark.CLOSED, 'open' or 'closed'\n"
+                said = f"altairpeg: mark is {mark!r}, not 'open' or 'closed'\n"
                 self.ran(altairpeg(*command, self.named(mark=mark, steps=3, codes=CLOSED_CODES)), 2, "", said)
 
     def test_what_is_no_json(self):
@@ -225,7 +225,15 @@ class JsonFiles(Scratch):
             ))
 
     def test_standard_input_is_a_card(self):
-        self.ran(altairpeg("check", "-", input=as_json(CLOSED_PLAN)), 1, "", "refused 11 7 0: card edition not 1 (edition 7)\n")
+        said = "altairpeg: - looks like JSON, not like a card: the name of a JSON file ends in .json\n"
+        self.ran(altairpeg("check", "-", input=as_json(CLOSED_PLAN)), 2, "", said)
+
+    def test_a_name_that_stands_twice(self):
+        first = '"lengths": [6], "inbound": [3, 6, 1, 5, 2, 4], "tracks": 2, "room": 4'
+        for twice in ('"mark": "closed", "mark": "open"', '"mark": "open", "mark": "closed"', '"mark": "open", "room": 4'):
+            file = self.file("twice.json", f"{{{first}, {twice}}}".encode())
+            name = "room" if "room" in twice else "mark"
+            self.ran(altairpeg("derive", file), 2, "", f"altairpeg: {file}: '{name}' stands twice in one object\n")
 
 
 class Ends(Scratch):

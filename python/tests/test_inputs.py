@@ -183,7 +183,7 @@ class Marks(Scratch):
         for mark, word, codes in ((Mark.OPEN, "open", CODES), (Mark.CLOSED, "closed", CLOSED_CODES)):
             for given in (mark, word):
                 self.assertEqual(derive(n(mark=given)).codes, codes)
-            self.assertEqual((mark, Mark(word), json.dumps(mark)), (word, mark, f'"{word}"'))
+            self.assertEqual((mark, Mark(word), json.dumps(mark), f"{mark}"), (word, mark, f'"{word}"', word))
         self.assertEqual(len(Mark), 2)
 
     def test_no_mark_is_taken_for_granted(self):
@@ -191,7 +191,7 @@ class Marks(Scratch):
         self.assertEqual(Night._field_defaults, {})
 
     def test_what_is_no_mark(self):
-        message = r"^mark is .*, not Mark\.OPEN, Mark\.CLOSED, 'open' or 'closed'$"
+        message = r"^mark is .*, not 'open' or 'closed'$"
         for given in (True, False, 0, 1, None, "shut", "Open", "CLOSED", "", b"open", [], ["open"], {}, Mark, Unshown()):
             plan = Plan(n(mark=given), 2, CODES)
             with self.subTest(type(given).__name__):

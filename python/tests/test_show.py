@@ -36,7 +36,7 @@ trains as built
 check: refused 9 3 0: trains out of order (car 3)
 """),
     (BARRED, """\
-steps 3 tracks 2 room 4 cars 6 trains 1 closed
+steps 3 tracks 2 room 4 cars 6 trains 1 mark closed
 
 first roll-in: 3 6 1 5 2! 4
   3 -> track 1   6 1 5 -> track 0   2! -> train 1   4 -> track 1
@@ -58,7 +58,7 @@ class Show(Scratch):
 
     def test_the_brief_of_a_story_that_ends_at_the_first_roll_in(self):
         self.ran(show(BARRED, "--brief"), 1, (
-            "steps 3 tracks 2 room 4 cars 6 trains 1 closed\n"
+            "steps 3 tracks 2 room 4 cars 6 trains 1 mark closed\n"
             "first roll-in: 3 6 1 5 2! 4\n"
             "  ! car 2 would roll to train 1, barred until the first pull\n"
             "check: refused 14 2 0: a zero code in a closed night (car 2): codes[1] is 0\n"

@@ -54,13 +54,16 @@ class Picture(unittest.TestCase):
 
     def test_barred_destinations(self):
         for plan, boxes in ((SHUT, 1), (many(8, 8, mark=CLOSED), 8), (many(64, 8, mark=CLOSED), 0), (many(8, 8), 0), (BARRED, 0)):
-            told = words(picture(tell(plan)))
+            drawn = picture(tell(plan))
+            told = words(drawn)
             self.assertEqual(told.count("barred"), boxes)
+            for part in ('stroke-dasharray="2 6"', 'fill="none" stroke="#777"'):
+                self.assertEqual(drawn.count(part), boxes)
             self.assertEqual("Bars:" in " ".join(told), boxes > 0)
         told = words(picture(tell(SHUT)))
         self.assertLess(told.index("Stage 0, 6 passes; step 0 pulls track 0"), told.index("barred"))
         self.assertLess(told.index("barred"), told.index("Stage 1, 10 passes; step 1 pulls track 1"))
-        self.assertIn("steps 3 tracks 2 room 4 cars 6 trains 1 closed", told)
+        self.assertIn("steps 3 tracks 2 room 4 cars 6 trains 1 mark closed", told)
 
     def test_many_barred_destinations(self):
         told = [line for line in words(picture(tell(NINE))) if " trains " in line]
@@ -71,6 +74,7 @@ class Picture(unittest.TestCase):
         self.assertTrue(" ".join(told).endswith("Check: refused 14 2 0: a zero code in a closed night (car 2): codes[1] is 0"))
         self.assertFalse([line for line in told if line.startswith("Stage")])
         self.assertIn("Red frame and !: would roll to a track that is barred until the first pull.", " ".join(told))
+        self.assertNotIn("Yellow", " ".join(told), "there is no stage whose signs need words")
         self.assertEqual(told.count("6"), 1, "a car that may roll is drawn once, and not marked")
 
     def test_nothing_leaves_the_picture(self):

@@ -6,8 +6,8 @@
 //! Every night has a [`Mark`]: its destination tracks are open from the first roll-in on or, as in most
 //! yards, closed until the first pull. In a closed night no car has code 0. There is no default:
 //!
-//! ```compile_fail
-//! let mark = altairpeg::Mark::default();
+//! ```compile_fail,E0063
+//! let night = altairpeg::Night { lengths: &[1], inbound: &[1], tracks: 1, room: 1 };
 //! ```
 //!
 //! ```
