@@ -35,8 +35,8 @@ plan-read {bytes} {l} {i} {c} {r} {l₁} {i₁} {c₁} reads e =
     ap (λ x. planOf x (take (r .cars) i₁) (closedBy (r .mark)) (r .tracks) (r .room) (r .steps) (take (r .cars) c₁)) lengths
     ∙ ap (λ x. planOf (p .night .lengths) x (closedBy (r .mark)) (r .tracks) (r .room) (r .steps) (take (r .cars) c₁)) inbound
     ∙ ap (λ x. planOf (p .night .lengths) (p .night .inbound) (closedBy (r .mark)) (r .tracks) (r .room) (r .steps) x) codes
-    ∙ ap (λ r. planOf (p .night .lengths) (p .night .inbound) (closedBy (r .mark)) (r .tracks) (r .room) (r .steps) (p .codes)) (told .answer)
-    ∙ ap (λ (b : Bool). planOf (p .night .lengths) (p .night .inbound) b (p .night .tracks) (p .night .room) (p .steps) (p .codes)) (sym (cardPlan-open bytes))
+    ∙ ap (λ (b : Bool). planOf (p .night .lengths) (p .night .inbound) b (r .tracks) (r .room) (r .steps) (p .codes)) (told .mark)
+    ∙ ap (λ r. planOf (p .night .lengths) (p .night .inbound) (p .night .closed) (r .tracks) (r .room) (r .steps) (p .codes)) (told .answer)
 
 -- What `write` wrote `read` takes back: the mark and the numbers in the answer, the items of each list at the front of its buffer.
 pub write-then-read : {lengths inbound codes : List ℕ} {tracks room steps : ℕ} {before : List ℕ} {w : Answer} {after : List ℕ}
@@ -48,7 +48,7 @@ pub write-then-read : {lengths inbound codes : List ℕ} {tracks room steps : �
     → length inbound ≤ length i
     → length codes ≤ length c
     → Told (planOf lengths inbound false tracks room steps codes) l i c r l₁ i₁ c₁
-write-then-read = written-then-read refl
+write-then-read = written-then-read
 
 -- A card that `read` accepts is byte for byte the one that `write` makes of what was read.
 pub read-then-write : {bytes l i c : List ℕ} {r : CardAnswer} {l₁ i₁ c₁ before : List ℕ} {w : Answer} {after : List ℕ}
@@ -71,7 +71,10 @@ one-card {x} {y} {r = r} {l₁ = l₁} {i₁ = i₁} {c₁ = c₁} {s = s} {k₁
     let before = x ++ y in
     let answer : Plan → Answer = λ p. writerAnswer limits p (length before) in
     let after : Plan → List ℕ = λ p. written (answer p) (card p) before in
-    let writes : (p : Plan) → Writes p before (answer p) (after p) = λ p. record { answer = refl; bytes = refl } in
-    let first = read-then-write reads-x rx (writes (planRead r l₁ i₁ c₁)) (omega (arith, length-append x y)) in
-    let second = read-then-write reads-y ry (writes (planRead s k₁ j₁ d₁)) (omega (arith, length-append x y)) in
+    let writes : (p : Plan) → p .night .closed ≡ false → Writes p before (answer p) (after p) = λ p free. record { free = free; answer = refl; bytes = refl } in
+    let mark : Plan → Bool = λ p. p .night .closed in
+    let free-x : mark (planRead r l₁ i₁ c₁) ≡ false = ap mark (plan-read reads-x rx) ∙ cardPlan-open x in
+    let free-y : mark (planRead s k₁ j₁ d₁) ≡ false = ap mark (plan-read reads-y ry) ∙ cardPlan-open y in
+    let first = read-then-write reads-x rx (writes (planRead r l₁ i₁ c₁) free-x) (omega (arith, length-append x y)) in
+    let second = read-then-write reads-y ry (writes (planRead s k₁ j₁ d₁) free-y) (omega (arith, length-append x y)) in
     sym (first .1) ∙ ap (λ p. take (answer p .a) (after p)) same ∙ second .1

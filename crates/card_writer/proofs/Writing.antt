@@ -1,5 +1,6 @@
 -- Laws of the writer: the bits of a card in the order in which they are drawn, their room, and its answer in parts.
 use Prim.Native.Nat.{ℕ, _+_, _*_, _≤_, _<_}
+use mathlib.Core.Bool.{false}
 use mathlib.Core.Path.{_≡_, refl, sym, ap, _∙_}
 use mathlib.Core.List.{List, [], _∷_, _++_}
 use native.Mathlib.Omega.{arith}
@@ -148,16 +149,18 @@ module _ (p : Plan) (before : List ℕ) {r : Answer} (answered : r ≡ writerAns
       let w = writer-accepts-exactly limits p (length before) .0 (sym (ap (λ r. r .number) answered) ∙ e) in
       record { head = refl; bounded = within-bounded {h = headOf p} (w .given .counts); coded = w .each; room = w .buffer }
 
-  pub writes-accepted : {after : List ℕ} → r .number ≡ 0 → after ≡ cardOver p before → Writes p before r after
-  writes-accepted e over =
+  pub writes-accepted : {after : List ℕ} → p .night .closed ≡ false → r .number ≡ 0 → after ≡ cardOver p before → Writes p before r after
+  writes-accepted free e over =
       record {
+        free = free;
         answer = answered;
         bytes = over ∙ sym (written-accepted (writerAnswer limits p (length before)) (card p) before (sym (ap (λ r. r .number) answered) ∙ e));
       }
 
-  pub writes-refused : (r .number ≡ 0 → ⊥) → Writes p before r before
-  writes-refused fails =
+  pub writes-refused : p .night .closed ≡ false → (r .number ≡ 0 → ⊥) → Writes p before r before
+  writes-refused free fails =
       record {
+        free = free;
         answer = answered;
         bytes = sym (written-refused (writerAnswer limits p (length before)) (card p) before (λ e. fails (ap (λ r. r .number) answered ∙ e)));
       }

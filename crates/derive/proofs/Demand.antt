@@ -25,10 +25,10 @@ told n r after = record { night = n; steps = r .a; codes = take (length (n .inbo
 
 -- what an accepted call has told
 pub record Told (n : Night) (before : List ℕ) (r : Answer) (after : List ℕ) : Type 0 where
-  -- the plan pulls no car early and builds every train, and no track is overfilled
+  -- the plan pulls no car early and builds every train, in a closed night without code 0, and no track is overfilled
   pub sorts : Sorts (told n r after)
   pub room : HasRoom (told n r after)
-  -- no plan with fewer pull-outs does, whatever its codes
+  -- no plan with fewer pull-outs sorts so, whatever its codes
   pub least : (h : ℕ) (codes : List ℕ) → Sorts (record { night = n; steps = h; codes = codes }) → r .a ≤ h
   -- the passes are the cars that roll in its replay, counted one by one
   pub passes : r .b ≡ yardAt (told n r after) (r .a) .rolled
@@ -90,11 +90,11 @@ module _ (n : Night) (limit : ℕ) (before : List ℕ) (r : Answer) (after : Lis
   pub call-listing : (a b : ℕ) → (r ≡ says 3 a b) ↔ InboundWrong limits n limit a b
   call-listing a b = told-alike (promise .answer) (derive-listing-exactly limits n limit (length before) a b)
 
-  -- a limit is refused exactly if no plan that builds the trains keeps to it, whatever its codes
+  -- a limit is refused exactly if no plan that builds the trains, in a closed night without code 0, keeps to it, whatever its codes
   pub call-limit : (a b : ℕ) → (r ≡ says 5 a b) ↔ (DeriveGiven limits n limit (length before) × (Sortable n limit → ⊥) × Least (Sortable n) a × (b ≡ 0))
   call-limit a b = told-alike (promise .answer) (derive-limit-exactly limits n limit (length before) a b)
 
-  -- then every plan that builds the trains has at least A steps, and one has exactly A
+  -- then every plan that sorts so has at least A steps, and one has exactly A
   pub call-limit-least : (a b : ℕ) → r ≡ says 5 a b
       → ((h : ℕ) (codes : List ℕ) → Sorts (record { night = n; steps = h; codes = codes })
       → a ≤ h) × ((codes : List ℕ) × Sorts (record { night = n; steps = a; codes = codes }))

@@ -4,7 +4,7 @@ use yard::Counts;
 ghost use mathlib.Core.Path.{_≡_};
 ghost use mathlib.Core.Bool.{false};
 ghost use mathlib.Core.List.{map};
-ghost use Prim.Native.Nat.{_-_, _≤_, _<_};
+ghost use Prim.Native.Nat.{_-_, _≤_};
 ghost use lib.ListN.{length, getD};
 ghost use Rattle.yard.specs.Words.{tally};
 ghost use Rattle.yard.specs.Codes.{F, codeNumber};

@@ -72,9 +72,9 @@ fn sound(codes: &[u16], fullest: usize, closed: bool, counts: Counts) -> Answer
     if below.number != 0 {
         return below;
     }
-    let moved = intake::zeros(codes, closed);
-    if moved.number != 0 {
-        return moved;
+    let barred = intake::zeros(codes, closed);
+    if barred.number != 0 {
+        return barred;
     }
     let pulled = kept(codes, counts.tracks, counts.steps);
     if pulled.number != 0 {

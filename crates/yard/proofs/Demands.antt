@@ -9,24 +9,23 @@ use lib.ListN.{length}
 use Rattle.yard.specs.declared.Answer.{Answer}
 use Rattle.yard.specs.Limits.{Limits}
 use Rattle.yard.specs.Night.{Night, Plan, planOf}
-use Rattle.yard.specs.Replay.{yardAt, passes, fullestPull, pulled, pullSize, built}
+use Rattle.yard.specs.Replay.{yardAt, passes, fullestPull, pulled, pullSize, built, early, lowestEarly, firstEarly, firstOverfull, inOrder}
 use Rattle.yard.specs.Derived.{stepsNeeded, derivedPlan}
-use Rattle.yard.specs.Demands.{Least, Within, InLimits, Listed, ListedWrong, InboundWrong, ZeroWrong, Given, KeepsClear, NeverEarly, HasRoom}
-use Rattle.yard.specs.Demands.{BuildsTrains, Sorts, Sortable, OverfullStep}
+use Rattle.yard.specs.Demands.{Least, Within, InLimits, Listed, ListedWrong, InboundWrong, ZeroCode, ZeroWrong, Given, CodesFormed, KeepsClear}
+use Rattle.yard.specs.Demands.{Sorts, Sortable, OverfullStep}
 use Rattle.yard.specs.Answers.{says, Ask, AllHold, FirstFails, countAsk, trainAsk, sumAsk, inboundAsk, lengthAsk, bufferAsk, limitAsk}
 use Rattle.yard.specs.Answers.{codeAsk, zeroAsk, earlyAsk, roomAsk, orderAsk}
 use Rattle.yard.specs.Calls.{countAsks, listAsks, opening, deriveOwn, deriveAsks, deriveTests, deriveAnswer, DeriveGiven, Derivable, Derives, checkOwn}
 use Rattle.yard.specs.Calls.{checkAsks, checkTests, checkAnswer, GoodPlan, Checks, replayOwn, replayAsks, replayTests, replayAnswer, Replayable}
 use Rattle.yard.specs.Calls.{Replays}
 use Rattle.yard.proofs.calls.Verdict.{verdict-done}
-use Rattle.yard.proofs.general.Bools.{clash}
 use Rattle.yard.proofs.yards.Plans.{range-once}
 use Rattle.yard.proofs.yards.Clear.{clear-exactly}
 use Rattle.yard.proofs.yards.Least.{least-steps}
 use Rattle.yard.proofs.yards.DerivedPlan.{derived-sorts}
 use Rattle.yard.proofs.calls.Asks.{Sound, Unnamed, holds-append, sound-append, fails-past, fails-at, accepted-exactly, refused-exactly, refused-at}
 use Rattle.yard.proofs.calls.Rights.{count-right, length-right, buffer-right, train-right, sum-right, inbound-right, code-right, early-right}
-use Rattle.yard.proofs.calls.Rights.{bad-not-once, zero-right, room-right, overfull-full, order-right, limit-right}
+use Rattle.yard.proofs.calls.Rights.{bad-not-once, none-zero, zero-right, room-right, overfull-full, order-right, limit-right}
 
 -- ---- what the opening asks yields, by name
 
@@ -171,8 +170,8 @@ module _ (L : Limits) (p : Plan) where
         λ g. opened .1 (g .given, tt, (g .each, (g .below, (g .clear, (g .never, (g .room, (g .builds, tt))))))),
       )
 
-  -- check accepts exactly if lists and codes are well formed and the replay pulls no car early, overfills no track and builds
-  -- every train in order
+  -- check accepts exactly if lists and codes are well formed and the replay keeps the destinations of a closed night clear until the
+  -- first pull, pulls no car early, overfills no track and builds every train in order
   pub check-accepts-exactly : (checkAnswer L p .number ≡ 0) ↔ GoodPlan L p
   unfolding checkAnswer
   check-accepts-exactly =
@@ -206,23 +205,17 @@ module _ (L : Limits) (p : Plan) where
         λ w. exactly .1 (begun .1 (w .given, tt, (w .codes .each, (w .codes .below, tt))), zero-not-clear p w, (w .car, w .unused)),
       )
 
--- what is accepted in a closed night is accepted in an open one, with the same answer: the mark asks for nothing but clear destinations
+-- the mark asks for nothing but codes above 0: where all are, check says the same of the night open, refusals too, and so does replay
+pub check-same : (L : Limits) (p : Plan) → ((car : ℕ) → ZeroCode p car → ⊥) → checkAnswer L (opened p) ≡ checkAnswer L p
+unfolding checkAnswer passes fullestPull pullSize pulled built yardAt firstEarly lowestEarly early firstOverfull inOrder
+check-same L p none = rw (none-zero p .1 none) refl
+
+-- so what is accepted in a closed night is accepted in an open one, with the same answer
 pub check-opened : (L : Limits) (p : Plan) → checkAnswer L p .number ≡ 0 → checkAnswer L (opened p) ≡ checkAnswer L p
-unfolding checkAnswer KeepsClear NeverEarly HasRoom BuildsTrains passes fullestPull pullSize pulled built yardAt
 check-opened L p e =
     let good = check-accepts-exactly L p .0 e in
-    let same : GoodPlan L (opened p) =
-    record {
-      given = record { counts = good .given .counts; lists = good .given .lists };
-      each = good .each;
-      below = good .below;
-      clear = λ shut. clash shut refl;
-      never = good .never;
-      room = good .room;
-      builds = good .builds;
-    } in
-    let done = says 0 (passes p (p .steps)) (fullestPull p) in
-    verdict-done (checkTests L (opened p)) done (check-accepts-exactly L (opened p) .1 same) ∙ sym (verdict-done (checkTests L p) done e)
+    let formed : CodesFormed p = record { each = good .each; below = good .below } in
+    check-same L p (clear-exactly p (good .given .lists) (good .given .counts .tracks .0) formed .0 (good .clear))
 
 -- ---- demands 1 and 2: replay to a stage
 
@@ -320,10 +313,15 @@ module _ (L : Limits) (p : Plan) (stage trackSize placeSize : ℕ) where
       let wrong = opening-wrong L (p .night) (p .steps) reached (replayOwn p trackSize placeSize) (omega arith) (omega arith) a b in
       Iff·trans (replay-refuses-exactly 3 a b (omega arith)) (λ f. let (w, own) = wrong .0 f in (w, own .0), λ (w, reached). wrong .1 (w, (reached, tt)))
 
+pub replay-same : (L : Limits) (p : Plan) (stage trackSize placeSize : ℕ) → ((car : ℕ) → ZeroCode p car → ⊥)
+    → replayAnswer L (opened p) stage trackSize placeSize ≡ replayAnswer L p stage trackSize placeSize
+unfolding replayAnswer passes pullSize pulled yardAt firstEarly lowestEarly early firstOverfull
+replay-same L p stage trackSize placeSize none = rw (none-zero p .1 none) refl
+
 -- ---- demand 3: the bill is the least there is
 
 -- Room aside, and whatever the limit: for every night of at least one train and one track whose lists are well formed, the derived
--- plan builds all the trains, and no plan with fewer steps does, whatever codes it gives.
+-- plan builds all the trains, in a closed night without code 0, and no plan with fewer steps does, whatever codes it gives.
 pub record LeastPlan (n : Night) (p : Plan) : Type 0 where
   pub same : p .night ≡ n
   pub sorts : Sorts p
@@ -385,7 +383,8 @@ module _ (L : Limits) (n : Night) (limit size : ℕ) where
   derive-listing-exactly a b =
       Iff·trans (derive-refuses-exactly 3 a b (omega arith)) (call-wrong L n limit (deriveOwn n limit size) (omega arith) a b)
 
-  -- a limit is refused exactly if no plan that builds the trains keeps to it, whatever its codes; A is the least limit that one keeps to
+  -- a limit is refused exactly if no plan that builds the trains, in a closed night without code 0, keeps to it, whatever its codes; A
+  -- is the least limit that one keeps to
   pub derive-limit-exactly : (a b : ℕ)
       → (deriveAnswer L n limit size ≡ says 5 a b) ↔ (DeriveGiven L n limit size × (Sortable n limit → ⊥) × Least (Sortable n) a × (b ≡ 0))
   unfolding deriveAnswer

@@ -5,7 +5,7 @@ use mathlib.Core.Bool.{true}
 use Rattle.yard.specs.Replay.{yardAt, passes, pulled, pullSize, fullestPull, early, lowestEarly, firstEarly, firstOverfull, built, inOrder}
 use Rattle.yard.specs.Codes.{usable, allowed, allowedCodes, codeNumber, fewestSteps, fewestTracks}
 use Rattle.yard.specs.Derived.{stepsNeeded, derivedCodes, derivedPlan}
-use Rattle.yard.specs.Calls.{deriveAnswer, checkAnswer}
+use Rattle.yard.specs.Calls.{deriveAnswer, checkAnswer, replayAnswer}
 use Rattle.yard.specs.Card.{layout, fields, card}
 use Rattle.yard.specs.Trials.{trials, tables, requests, agree}
 
@@ -20,6 +20,6 @@ unfolding tables layout card fields derivedPlan stepsNeeded derivedCodes usable 
 tables-agree = refl
 
 pub requests-agree : agree requests ≡ true
-unfolding requests deriveAnswer checkAnswer stepsNeeded derivedCodes derivedPlan usable allowed allowedCodes codeNumber fewestSteps yardAt passes
+unfolding requests deriveAnswer checkAnswer replayAnswer stepsNeeded derivedCodes derivedPlan usable allowed allowedCodes codeNumber fewestSteps yardAt passes
     pulled pullSize fullestPull early lowestEarly firstEarly firstOverfull built inOrder
 requests-agree = refl

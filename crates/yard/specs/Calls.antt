@@ -73,16 +73,13 @@ pub record Derivable (L : Limits) (n : Night) (limit size : ℕ) : Type 0 where
   pub sortable : Sortable n limit
   pub room : HasRoom (derivedPlan n)
 
+-- what check and replay ask of a plan's codes, in this order
+abbrev pub codeAsks : Plan → List Ask
+codeAsks p = codeAsk (p .steps) (p .codes) ∷ zeroAsk p ∷ earlyAsk p ∷ roomAsk p ∷ []
+
 -- Check: a plan.
 abbrev pub checkOwn : Plan → List Ask
-checkOwn p =
-    lengthAsk 3 (length (p .codes)) (length (p .night .inbound)) ∷
-    codeAsk (p .steps) (p .codes) ∷
-    zeroAsk p ∷
-    earlyAsk p ∷
-    roomAsk p ∷
-    orderAsk p ∷
-    []
+checkOwn p = lengthAsk 3 (length (p .codes)) (length (p .night .inbound)) ∷ (codeAsks p ++ (orderAsk p ∷ []))
 
 abbrev pub checkAsks : Limits → Plan → List Ask
 checkAsks L p = opening L (p .night) (p .steps) [] (checkOwn p)
@@ -114,11 +111,7 @@ replayOwn p trackSize placeSize =
     lengthAsk 3 (length (p .codes)) (length (p .night .inbound)) ∷
     bufferAsk 4 (length (p .night .inbound)) trackSize ∷
     bufferAsk 5 (length (p .night .inbound)) placeSize ∷
-    codeAsk (p .steps) (p .codes) ∷
-    zeroAsk p ∷
-    earlyAsk p ∷
-    roomAsk p ∷
-    []
+    codeAsks p
 
 abbrev pub replayAsks : Limits → Plan → ℕ → ℕ → ℕ → List Ask
 replayAsks L p stage trackSize placeSize =

@@ -73,7 +73,7 @@ fields p = headFields (headOf p) ++ (p .night .lengths ++ (p .night .inbound ++ 
 unfoldable pub card : Plan → List ℕ
 card p = toBytes (packed (widths (headOf p)) (fields p))
 
--- The writer: a plan of an open night, since a card of edition 1 tells no other, and a lent buffer for the card.
+-- The writer: a plan, and a lent buffer for the card.
 abbrev pub writerOwn : Plan → ℕ → List Ask
 writerOwn p size =
     lengthAsk 3 (length (p .codes)) (length (p .night .inbound)) ∷
@@ -97,8 +97,9 @@ pub record Writable (L : Limits) (p : Plan) (size : ℕ) : Type 0 where
   pub below : CodesBelow (p .steps) (p .codes)
   pub buffer : length (card p) ≤ size
 
--- what the writer promises
+-- what the writer promises, of plans of open nights: it is given no mark, and a closed night would be read back as another
 pub record Writes (p : Plan) (before : List ℕ) (r : Answer) (after : List ℕ) : Type 0 where
+  pub free : p .night .closed ≡ false
   pub answer : r ≡ writerAnswer limits p (length before)
   pub bytes : after ≡ written (writerAnswer limits p (length before)) (card p) before
 

@@ -25,8 +25,8 @@ usable W h code = eqb (firstEarly (lone W h code)) h
 unfoldable pub usableCodes : ℕ → ℕ → List ℕ
 usableCodes W h = keep (usable W h) (upFrom 0 (2 ^ h))
 
--- the codes that a night allows, by its mark and its tracks: the usable ones, but not 0 where it is closed, since a car with code 0
--- rolls to its destination at once
+-- of the codes below 2^h those that a night allows, by its mark and its tracks: the usable ones, but not 0 where it is closed, since a
+-- car with code 0 rolls to its destination at once
 unfoldable pub allowed : Bool → ℕ → ℕ → ℕ → Bool
 allowed closed W h code = usable W h code && not (closed && eqb code 0)
 

@@ -38,7 +38,7 @@ nightGiven lengths inbound closed counts = nightOf lengths inbound closed (count
 abbrev pub planGiven : List ℕ → List ℕ → List ℕ → Bool → Counts → Plan
 planGiven lengths inbound codes closed counts = planOf lengths inbound closed (counts .tracks) (counts .room) (counts .steps) codes
 
--- the mark as a number, as a caller in C gives it and a card tells it: 0 is open, every other number closed
+-- the mark as a number, as a caller in C gives it and the card reader tells it: 0 is open, every other number closed
 abbrev pub closedBy : ℕ → Bool
 closedBy mark = not (eqb mark 0)
 

@@ -12,7 +12,7 @@ use Rattle.yard.specs.Replay.{yardAt, built}
 use Rattle.yard.specs.Codes.{F, fewestTracks}
 use Rattle.yard.specs.Derived.{derivedCodes, derivedPlan}
 use Rattle.yard.specs.Answers.{written}
-use Rattle.yard.specs.Calls.{deriveAnswer, checkAnswer}
+use Rattle.yard.specs.Calls.{deriveAnswer, checkAnswer, replayAnswer}
 use Rattle.yard.specs.Card.{card}
 
 -- a trial's case, what the meaning says, and what the document says
@@ -48,6 +48,11 @@ codes n = written (deriveAnswer limits n 8 (length (n .inbound))) (derivedCodes 
 checks : Plan → List ℕ
 unfolding told
 checks p = told (checkAnswer limits p)
+
+-- replay's answer at stage 0, with room in its buffers
+replays : Plan → List ℕ
+unfolding told
+replays p = told (replayAnswer limits p 0 512 512)
 
 stands : Night → ℕ → ℕ → List ℕ
 stands n stage track = yardAt (derivedPlan n) stage .standing track
@@ -105,9 +110,10 @@ two : Night
 two = nightOf (2 ∷ []) (1 ∷ 2 ∷ []) false 2 512
 
 -- nights of the requests of document 02, by their number. 101: a car listed twice, thrice, and a number out of range, also twice.
--- 103: night N closed, one car closed; a zero code, 7 before it and it before 8, and the same codes in an open night
+-- 103: night N closed, one car closed, and one that needs nine steps; a zero code, 7 before it and it before 8, and the same codes in
+-- an open night
 unfoldable pub requests : List Trial
-unfolding nightN closed plan told derives codes checks trial one two
+unfolding nightN reversed closed plan told derives codes checks replays trial one two
 requests =
     trial 101 (derives (nightOf (5 ∷ []) (2 ∷ 1 ∷ 3 ∷ 1 ∷ 3 ∷ []) false 2 512) 8) (3 ∷ 4 ∷ 2 ∷ []) ∷
     trial 101 (derives (nightOf (3 ∷ []) (2 ∷ 2 ∷ 2 ∷ []) false 2 512) 8) (3 ∷ 2 ∷ 1 ∷ []) ∷
@@ -119,7 +125,9 @@ requests =
     trial 103 (derives (closed one) 8) (0 ∷ 1 ∷ 2 ∷ []) ∷
     trial 103 (codes (closed one)) (1 ∷ []) ∷
     trial 103 (derives (closed one) 0) (5 ∷ 1 ∷ 0 ∷ []) ∷
+    trial 103 (derives (closed (reversed 9 1)) 8) (5 ∷ 9 ∷ 0 ∷ []) ∷
     trial 103 (checks (plan (closed (nightN 2 512)) 2 (1 ∷ 1 ∷ 0 ∷ 1 ∷ 0 ∷ 3 ∷ []))) (14 ∷ 3 ∷ 0 ∷ []) ∷
+    trial 103 (replays (plan (closed (nightN 2 512)) 2 (1 ∷ 1 ∷ 0 ∷ 1 ∷ 0 ∷ 3 ∷ []))) (14 ∷ 3 ∷ 0 ∷ []) ∷
     trial 103 (checks (plan (closed two) 1 (0 ∷ 2 ∷ []))) (7 ∷ 2 ∷ 0 ∷ []) ∷
     trial 103 (checks (plan (closed two) 3 (4 ∷ 0 ∷ []))) (14 ∷ 2 ∷ 0 ∷ []) ∷
     trial 103 (checks (plan two 3 (4 ∷ 0 ∷ []))) (8 ∷ 1 ∷ 0 ∷ []) ∷

@@ -26,14 +26,14 @@ returns c =
     let at-then = c .before .before .before .before in
     let at-answer = at-then .before .before in
     let start = at-answer .before .before .before .before .before in
-    writes-accepted (plan start) (now (start .args .card)) (at-answer .answer .ensures) (at-then .if1 .taken) (c .before .before .draw .ensures)
+    writes-accepted (plan start) (now (start .args .card)) (at-answer .answer .ensures) refl (at-then .if1 .taken) (c .before .before .draw .ensures)
 
 returns-2 : tie.Need-returns-2
 unfolding plan
 returns-2 c =
     let at-answer = c .before .before in
     let start = at-answer .before .before .before .before .before in
-    writes-refused (plan start) (now (start .args .card)) (at-answer .answer .ensures) (c .if1 .left)
+    writes-refused (plan start) (now (start .args .card)) (at-answer .answer .ensures) refl (c .if1 .left)
 
 pub write-spec : {M : Type 1} → statement M
 write-spec = tie.close (tie.spec (λ c κs. refl) draw-requires (λ c. search needs) returns returns-2)

@@ -18,8 +18,8 @@ use Rattle.plans.proofs.sound.Tie as tie
 abbrev below : tie.Start → Answer
 below s = codeTest (s .args .counts .steps) (now (s .args .codes))
 
-abbrev moved : tie.Start → Answer
-moved s = zeroTest (s .args .closed) (now (s .args .codes))
+abbrev barred : tie.Start → Answer
+barred s = zeroTest (s .args .closed) (now (s .args .codes))
 
 abbrev waits : tie.Start → Answer
 waits s = waitTest (s .args .counts .tracks) (s .args .counts .steps) (now (s .args .codes))
@@ -34,24 +34,24 @@ start c = c .before .before .before .before
 abbrev coded-at : tie.Else2 → tie.Else1
 coded-at c = c .before .before .before
 
-abbrev moved-at : tie.Else3 → tie.Else2
-moved-at c = c .before .before .before
+abbrev barred-at : tie.Else3 → tie.Else2
+barred-at c = c .before .before .before
 
 -- what the tests behind 7 say is the answer, and so what those behind 14 say
-behind-codes : (c : tie.Else1) {r : Answer} → r ≡ verdict (moved (start c) ∷ waits (start c) ∷ fulls (start c) ∷ []) (says 0 0 0)
-    → r ≡ verdict (below (start c) ∷ moved (start c) ∷ waits (start c) ∷ fulls (start c) ∷ []) (says 0 0 0)
+behind-codes : (c : tie.Else1) {r : Answer} → r ≡ verdict (barred (start c) ∷ waits (start c) ∷ fulls (start c) ∷ []) (says 0 0 0)
+    → r ≡ verdict (below (start c) ∷ barred (start c) ∷ waits (start c) ∷ fulls (start c) ∷ []) (says 0 0 0)
 behind-codes c {r} is =
     let s = start c in
     let tested = c .before .before .codes in
-    goes-on (below s) (moved s ∷ waits s ∷ fulls s ∷ []) (says 0 0 0) (tested .result) (tested .ensures) r (c .if1 .left) is
+    goes-on (below s) (barred s ∷ waits s ∷ fulls s ∷ []) (says 0 0 0) (tested .result) (tested .ensures) r (c .if1 .left) is
 
 behind-zeros : (c : tie.Else2) {r : Answer} →
     let s = start (coded-at c) in
-    r ≡ verdict (waits s ∷ fulls s ∷ []) (says 0 0 0) → r ≡ verdict (below s ∷ moved s ∷ waits s ∷ fulls s ∷ []) (says 0 0 0)
+    r ≡ verdict (waits s ∷ fulls s ∷ []) (says 0 0 0) → r ≡ verdict (below s ∷ barred s ∷ waits s ∷ fulls s ∷ []) (says 0 0 0)
 behind-zeros c {r} is =
     let s = start (coded-at c) in
     let tested = c .before .before .zeros in
-    behind-codes (coded-at c) (goes-on (moved s) (waits s ∷ fulls s ∷ []) (says 0 0 0) (tested .result) (tested .ensures) r (c .if2 .left) is)
+    behind-codes (coded-at c) (goes-on (barred s) (waits s ∷ fulls s ∷ []) (says 0 0 0) (tested .result) (tested .ensures) r (c .if2 .left) is)
 
 codes-requires : tie.Need-codes-requires
 codes-requires c κs = search needs
@@ -60,14 +60,14 @@ returns : tie.Need-returns
 returns c =
     let tested = c .before .before .codes in
     let s = c .before .before .before .before in
-    stops (below s) (moved s ∷ waits s ∷ fulls s ∷ []) (says 0 0 0) (tested .result) (tested .ensures) (c .if1 .taken)
+    stops (below s) (barred s ∷ waits s ∷ fulls s ∷ []) (says 0 0 0) (tested .result) (tested .ensures) (c .if1 .taken)
 
 returns-2 : tie.Need-returns-2
 returns-2 c =
     let coded = c .before .before .before in
     let s = start coded in
     let tested = c .before .before .zeros in
-    behind-codes coded (stops (moved s) (waits s ∷ fulls s ∷ []) (says 0 0 0) (tested .result) (tested .ensures) (c .if2 .taken))
+    behind-codes coded (stops (barred s) (waits s ∷ fulls s ∷ []) (says 0 0 0) (tested .result) (tested .ensures) (c .if2 .taken))
 
 kept-requires : tie.Need-kept-requires
 kept-requires c κs =
@@ -79,21 +79,21 @@ kept-requires c κs =
 
 returns-3 : tie.Need-returns-3
 returns-3 c =
-    let moved = c .before .before .before in
-    let s = start (coded-at moved) in
+    let barred = c .before .before .before in
+    let s = start (coded-at barred) in
     let tested = c .before .before .kept in
-    behind-zeros moved (stops (waits s) (fulls s ∷ []) (says 0 0 0) (tested .result) (tested .ensures) (c .if3 .taken))
+    behind-zeros barred (stops (waits s) (fulls s ∷ []) (says 0 0 0) (tested .result) (tested .ensures) (c .if3 .taken))
 
 full-requires : tie.Need-full-requires
 full-requires c κs = search needs
 
 returns-4 : tie.Need-returns-4
 returns-4 c =
-    let moved = moved-at (c .before) in
-    let s = start (coded-at moved) in
+    let barred = barred-at (c .before) in
+    let s = start (coded-at barred) in
     let tested = c .before .before .before .kept in
     let above = firstAbove (s .args .counts .room) (now (s .args .codes)) (s .args .counts .steps) in
-    behind-zeros moved
+    behind-zeros barred
     (goes-on (waits s) (fulls s ∷ []) (says 0 0 0) (tested .result) (tested .ensures) (c .full .result) (c .before .if3 .left)
     (c .full .ensures ∙ last-is (leb (s .args .counts .steps) above) (says 6 above (pullOf (now (s .args .codes)) above)) (suc-ne-zero 5)))
 

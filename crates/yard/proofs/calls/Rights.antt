@@ -239,7 +239,7 @@ module _ (p : Plan) where
   unmoved car = eqb (codeOf p car) 0
 
   -- the test of a closed night is passed exactly if no car has code 0; where it is not, the search finds the first that has
-  none-zero : (noZero (p .night .closed) (p .codes) ≡ true) ↔ ((car : ℕ) → ZeroCode p car → ⊥)
+  pub none-zero : (noZero (p .night .closed) (p .codes) ≡ true) ↔ ((car : ℕ) → ZeroCode p car → ⊥)
   unfolding unmoved
   none-zero = go (p .night .closed) refl
     where

@@ -13,7 +13,7 @@ use borrow.Author.Tests.{ne-eqb}
 use Rattle.yard.specs.declared.Answer.{Answer}
 use Rattle.yard.specs.declared.CardAnswer.{CardAnswer}
 use Rattle.yard.specs.Limits.{Limits, limits}
-use Rattle.yard.specs.Night.{Plan}
+use Rattle.yard.specs.Night.{Plan, closedBy}
 use Rattle.yard.specs.Answers.{says}
 use Rattle.yard.specs.Bits.{Bytes}
 use Rattle.yard.specs.Card.{layout, card, headOf, headOn, cardPlan, rightLength, writerTests, writerAnswer, Writable}
@@ -24,7 +24,7 @@ use Rattle.yard.proofs.yards.Formed.{inbound-passed}
 use Rattle.yard.proofs.CardDemands.{writer-accepts-exactly, reader-accepts-exactly}
 use Rattle.yard.proofs.cards.Card.{card-length, cardLength-head, card-longest, Fitting, headLength-some, card-head, cardPlan-card}
 use Rattle.yard.proofs.cards.Card.{card-right-length, card-ends-right, cardPlan-cars, cardPlan-codes, cardPlan-head, IsCard, card-cardPlan}
-use Rattle.yard.proofs.cards.Card.{cardPlan-codes-below}
+use Rattle.yard.proofs.cards.Card.{cardPlan-codes-below, cardPlan-open}
 
 -- A plan that the writer accepts fits a card: no train is longer than the night, and every inbound number is a car's.
 writable-fitting : (p : Plan) (size : ℕ) → Writable limits p size → Fitting p
@@ -108,9 +108,11 @@ accepted-longest bytes a b c small e =
     let back = accepted-is-the-card limits bytes a b c (length bytes) small e (le-refl (length bytes)) in
     rw (back .0) at (written-longest (cardPlan bytes) (length bytes) (back .1))
 
--- What a caller of the reader has in hand after an acceptance: the plan's numbers in the answer, and its lists at the front of the buffers.
+-- What a caller of the reader has in hand after an acceptance: the plan's mark and numbers in the answer, and its lists at the front of
+-- the buffers.
 pub record Told (p : Plan) (lengths₀ inbound₀ codes₀ : List ℕ) (r : CardAnswer) (lengths₁ inbound₁ codes₁ : List ℕ) : Type 0 where
   pub answer : r ≡ readerSays (says 0 0 0) (headOf p)
+  pub mark : closedBy (r .mark) ≡ p .night .closed
   pub lengths : lengths₁ ≡ p .night .lengths ++ drop (length (p .night .lengths)) lengths₀
   pub inbound : inbound₁ ≡ p .night .inbound ++ drop (length (p .night .inbound)) inbound₀
   pub codes : codes₁ ≡ p .codes ++ drop (length (p .codes)) codes₀
@@ -159,6 +161,7 @@ module _
         let told = reads .answer ∙ readerAnswer-accepted limits bytes (length lengths₀) (length inbound₀) (length codes₀) accepted in
         record {
           answer = told ∙ ap (readerSays (says 0 0 0)) (sym (cardPlan-head bytes (readable .edition)));
+          mark = ap (λ (q : CardAnswer). closedBy (q .mark)) told ∙ sym (cardPlan-open bytes);
           lengths = reads .lengths ∙ written-accepted v (cardPlan bytes .night .lengths) lengths₀ accepted;
           inbound = reads .inbound ∙ written-accepted v (cardPlan bytes .night .inbound) inbound₀ accepted;
           codes = reads .codes ∙ written-accepted v (cardPlan bytes .codes) codes₀ accepted;
@@ -176,7 +179,6 @@ written-bytes {p} {before} {w} {after} writes e =
     rw (bytes, size) (take-append-seam (card p) (drop (length (card p)) before))
 
 pub written-then-read : {p : Plan} {before : List ℕ} {w : Answer} {after lengths₀ inbound₀ codes₀ : List ℕ} {r : CardAnswer} {lengths₁ inbound₁ codes₁ : List ℕ}
-    → p .night .closed ≡ false
     → Writes p before w after
     → w .number ≡ 0
     → Reads (take (w .a) after) lengths₀ inbound₀ codes₀ r lengths₁ inbound₁ codes₁
@@ -184,10 +186,10 @@ pub written-then-read : {p : Plan} {before : List ℕ} {w : Answer} {after lengt
     → length (p .night .inbound) ≤ length inbound₀
     → length (p .codes) ≤ length codes₀
     → Told p lengths₀ inbound₀ codes₀ r lengths₁ inbound₁ codes₁
-written-then-read {p} {before} {w} {after} {lengths₀} {inbound₀} {codes₀} {r} {lengths₁} {inbound₁} {codes₁} free writes e reads l i c =
+written-then-read {p} {before} {w} {after} {lengths₀} {inbound₀} {codes₀} {r} {lengths₁} {inbound₁} {codes₁} writes e reads l i c =
     let same : Reads (card p) lengths₀ inbound₀ codes₀ r lengths₁ inbound₁ codes₁ = rw (written-bytes writes e) at reads in
     let accepted = sym (ap (λ r. r .number) (writes .answer)) ∙ e in
-    let back = written-read-back p (length before) (length lengths₀) (length inbound₀) (length codes₀) free accepted l i c in
+    let back = written-read-back p (length before) (length lengths₀) (length inbound₀) (length codes₀) (writes .free) accepted l i c in
     rw (back .1) at (read-told same (reads-number same ∙ back .0))
 
 -- Read, then written: the bytes that came in go out.

@@ -14,7 +14,7 @@ use lib.Seq.{getD-drop}
 use lib.Pow.{pow-pos}
 use borrow.Author.Tests.{eq-eqb, ne-eqb, leb-true, le-leb}
 use Rattle.yard.specs.Words.{tally, keep, first, upFrom}
-use Rattle.yard.specs.Night.{Night, mostBreaks}
+use Rattle.yard.specs.Night.{Night, nightOf, mostBreaks}
 use Rattle.yard.specs.Codes.{usable, usableCodes, allowed, allowedCodes, codeNumber, F, fewestSteps}
 use Rattle.yard.specs.Derived.{stepsNeeded}
 use Rattle.yard.specs.Demands.{Least}
@@ -160,7 +160,14 @@ module _ (n : Night) (pos : 0 < n .tracks) where
       let own = fewest-least (n .tracks) (c + tally (n .closed)) pos in
       record { holds = omega (arith, own .holds); least = λ h more. own .least h (omega (arith, more)) }
 
--- where the destinations are closed a night needs at most one step more
-pub closed-one-more : (W c : ℕ) → 0 < W → fewestSteps W (suc c) ≤ suc (fewestSteps W c)
-closed-one-more W c pos =
-    fewest-least W (suc c) pos .least (suc (fewestSteps W c)) (omega (arith, fewest-least W c pos .holds, F-rising W (fewestSteps W c) pos))
+-- closed, a night needs at most one step more than open, and no step less
+pub closed-one-more : (lengths inbound : List ℕ) (W C : ℕ) → 0 < W
+    → let needs : Bool → ℕ = λ closed. stepsNeeded (nightOf lengths inbound closed W C) in (needs false ≤ needs true) × (needs true ≤ suc (needs false))
+unfolding stepsNeeded
+closed-one-more lengths inbound W C pos =
+    let c = mostBreaks lengths inbound in
+    let free = fewest-least W (c + 0) pos in
+    let shut = fewest-least W (c + 1) pos in (
+      free .least (fewestSteps W (c + 1)) (omega (arith, shut .holds)),
+      shut .least (suc (fewestSteps W (c + 0))) (omega (arith, free .holds, F-rising W (fewestSteps W (c + 0)) pos)),
+    )

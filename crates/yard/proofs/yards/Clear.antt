@@ -10,7 +10,7 @@ use lib.Dec.{eqb}
 use lib.ListN.{length}
 use lib.Pow.{pow-pos}
 use borrow.Author.Tests.{lt-ltb, le-ltb, ne-eqb}
-use Rattle.yard.specs.Words.{count, first}
+use Rattle.yard.specs.Words.{count}
 use Rattle.yard.specs.Night.{Plan, trainOf}
 use Rattle.yard.specs.Replay.{bit, nextStep, target, codeOf, destination, yardAt}
 use Rattle.yard.specs.Demands.{Within, Listed, CodesFormed, KeepsClear, ZeroCode, NeverEarly, BuildsTrains, Sorts}

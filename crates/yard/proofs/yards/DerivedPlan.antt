@@ -1,4 +1,4 @@
--- A plan by its codes, and the derived plan: its codes are usable, rise at each break, and so pull no car early and build the trains.
+-- A plan by its codes, and the derived plan: its codes are allowed, rise at each break, and so pull no car early and build the trains.
 use mathlib.Core.Path.{_≡_, sym, ap, ap₂, _∙_, subst}
 use mathlib.Core.Bool.{Bool, true, false, cond, not}
 use mathlib.Core.List.{List, _∷_, map}

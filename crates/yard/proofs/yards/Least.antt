@@ -1,4 +1,4 @@
--- Least steps: a plan that pulls no car early and builds the trains has at least the fewest steps, and the derived plan of that many steps does both.
+-- Least steps: a plan that sorts, in a closed night without code 0, has at least the fewest steps.
 use mathlib.Core.Path.{_≡_, refl, sym, ap}
 use mathlib.Core.Bool.{Bool, true, false}
 use mathlib.Core.List.{List}
