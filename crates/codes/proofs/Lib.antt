@@ -1,4 +1,5 @@
 -- The laws on which the proofs of this crate rest.
+pub mod Allowed
 pub mod Gap
 pub mod Steps
 pub mod Doubling

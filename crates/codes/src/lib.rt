@@ -6,6 +6,7 @@ ghost use lib.ListN.{length, take, drop};
 ghost use Rattle.yard.specs.Limits.{limits};
 ghost use Rattle.yard.specs.Demands.{Within};
 ghost use Rattle.yard.specs.Codes.{F, fewestTracks, fewestSteps, usableCodes};
+ghost use Rattle.codes.specs.Allowed.{AllowedPart};
 ghost use Rattle.codes.specs.Gap.{gaps};
 ghost use Rattle.scan.specs.Front.{Under, Front};
 ghost use Rattle.codes.specs.Ring.{lost, Ring};
@@ -13,6 +14,12 @@ ghost use Rattle.codes.specs.Wider.{firstWider};
 
 // How many codes there are of the most steps.
 pub const CODES: usize = 1 << yard::STEPS;
+
+// A part of a list: the index of its first item, and that behind its last.
+pub struct Part {
+    pub from: usize,
+    pub to: usize,
+}
 
 // The fewest tracks on which a car with a code is never pulled early, by code.
 const FEWEST: [u8; 256] = [
@@ -369,4 +376,15 @@ pub fn usable_codes(tracks: usize, steps: usize, into: &mut [u16]) -> usize
         codes = with_bit(intake::power(step) as u16, but, codes, into);
     }
     codes
+}
+
+// Writes the usable codes of these steps to the front of a list, and answers the part of it that a night allows: all, or where it is closed all
+// but the first, which is 0.
+pub fn allowed_codes(closed: bool, tracks: usize, steps: usize, into: &mut [u16]) -> Part
+    requires { ⌜ Within 1 (limits .tracks) tracks × (steps ≤ limits .steps) × (2 ^ steps ≤ length (now into)) ⌝ }
+    ensures { λ r. ⌜ AllowedPart closed tracks steps (now (into .exit)) r ⌝ }
+{
+    let to = usable_codes(tracks, steps, into);
+    let from = scan::tally(closed) as usize;
+    Part { from: from, to: to }
 }

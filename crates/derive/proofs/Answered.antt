@@ -11,18 +11,17 @@ use lib.ListN.{length, drop}
 use borrow.Author.Tests.{le-leb, lt-leb, leb-true}
 use Rattle.yard.specs.declared.Answer.{Answer}
 use Rattle.yard.specs.Limits.{limits}
-use Rattle.yard.specs.Night.{Night}
+use Rattle.yard.specs.Night.{Night, Plan}
 use Rattle.yard.specs.Replay.{passes, pullSize, firstOverfull}
 use Rattle.yard.specs.Derived.{stepsNeeded, derivedCodes, derivedPlan}
 use Rattle.yard.specs.Answers.{says, test, verdict, written, listTest, limitTest, roomTest}
 use Rattle.yard.specs.Calls.{nightCounts, nightTests, deriveAnswer, DeriveGiven, Derives}
-use Rattle.yard.specs.Demands.{Listed}
+use Rattle.yard.specs.Demands.{Listed, Sorts}
 use Rattle.yard.proofs.general.Numbers.{le-or-lt}
 use Rattle.yard.proofs.general.First.{first-same}
 use Rattle.yard.proofs.calls.Verdict.{Passed, passed-append, verdict-append, verdict-nested, verdict-passes, stops-all, goes-on-all, last-is, written-refused}
 use Rattle.yard.proofs.calls.Tests.{counts-passed, list-passed}
 use Rattle.yard.proofs.yards.Formed.{lists-passed}
-use Rattle.yard.proofs.yards.DerivedPlan.{derived-length, derived-sorts}
 use Rattle.yard.proofs.yards.PlanYard.{passes-codes, pullSize-codes}
 use Rattle.sorting.specs.Sums.{pullOf, setBelow, above, firstAbove}
 use Rattle.derive.specs.Plans.{firstTests, settled, Settles, planned, Planned}
@@ -52,67 +51,61 @@ module _ (room steps : ℕ) (derived before : List ℕ) {r : Answer} {full : ℕ
       accepted : leb steps (firstAbove room derived steps) ≡ true → says 0 steps (length derived + setBelow steps derived) ≡ settled room steps derived
       accepted t = rw t refl
 
--- the derived plan's room and passes are those worked out from its codes
-module _ (n : Night) (f : Listed (n .lengths) (n .inbound)) (pos : 0 < n .tracks) where
-  full-codes : firstOverfull (derivedPlan n) ≡ firstAbove (n .room) (derivedCodes n) (stepsNeeded n)
-  unfolding firstOverfull derivedPlan
+-- the room and the passes of a plan that pulls no car early are those worked out from its codes
+module _ (p : Plan) (f : Listed (p .night .lengths) (p .night .inbound)) (sorts : Sorts p) where
+  full-codes : firstOverfull p ≡ firstAbove (p .night .room) (p .codes) (p .steps)
+  unfolding firstOverfull
   full-codes =
-      let sorts = derived-sorts n f pos in
-      first-same (λ k. ltb (n .room) (pullSize (derivedPlan n) k)) (above (n .room) (derivedCodes n)) (stepsNeeded n) 0
-      (λ k l m. ap (ltb (n .room)) (pullSize-codes (derivedPlan n) f (sorts .codes) (sorts .never) k (omega arith)))
+      first-same (λ k. ltb (p .night .room) (pullSize p k)) (above (p .night .room) (p .codes)) (p .steps) 0
+      (λ k l m. ap (ltb (p .night .room)) (pullSize-codes p f (sorts .codes) (sorts .never) k (omega arith)))
 
-  passes-derived : passes (derivedPlan n) (stepsNeeded n) ≡ length (derivedCodes n) + setBelow (stepsNeeded n) (derivedCodes n)
-  unfolding derivedPlan
-  passes-derived =
-      let sorts = derived-sorts n f pos in
-      passes-codes (derivedPlan n) f (sorts .codes) (sorts .never) (stepsNeeded n) (le-refl (stepsNeeded n)) ∙
-      ap (λ (k : ℕ). k + setBelow (stepsNeeded n) (derivedCodes n)) (sym (derived-length n f pos))
+  passes-set : passes p (p .steps) ≡ length (p .codes) + setBelow (p .steps) (p .codes)
+  passes-set =
+      passes-codes p f (sorts .codes) (sorts .never) (p .steps) (le-refl (p .steps)) ∙
+      ap (λ (k : ℕ). k + setBelow (p .steps) (p .codes)) (sym (sorts .codes .each))
 
-  settled-derived : settled (n .room) (stepsNeeded n) (derivedCodes n) ≡ verdict (roomTest (derivedPlan n) ∷ [])
-      (says 0 (stepsNeeded n) (passes (derivedPlan n) (stepsNeeded n)))
-  unfolding derivedPlan
-  settled-derived =
-      go (length (derivedCodes n) + setBelow steps (derivedCodes n)) (le-or-lt steps full) ∙
-      (ap (λ (k : ℕ). answerOf k (pullSize (derivedPlan n) k) (length (derivedCodes n) + setBelow steps (derivedCodes n))) (sym full-codes) ∙
-      ap (answerOf (firstOverfull (derivedPlan n)) (pullSize (derivedPlan n) (firstOverfull (derivedPlan n)))) (sym passes-derived))
+  settled-plan : settled (p .night .room) (p .steps) (p .codes) ≡ verdict (roomTest p ∷ []) (says 0 (p .steps) (passes p (p .steps)))
+  settled-plan =
+      go (length (p .codes) + setBelow steps (p .codes)) (le-or-lt steps full) ∙
+      (ap (λ (k : ℕ). answerOf k (pullSize p k) (length (p .codes) + setBelow steps (p .codes))) (sym full-codes) ∙
+      ap (answerOf (firstOverfull p) (pullSize p (firstOverfull p))) (sym passes-set))
     where
       steps : ℕ
-      steps = stepsNeeded n
+      steps = p .steps
 
       full : ℕ
-      full = firstAbove (n .room) (derivedCodes n) steps
+      full = firstAbove (p .night .room) (p .codes) steps
 
       answerOf : ℕ → ℕ → ℕ → Answer
-      answerOf k cars p = verdict (test (leb steps k) (says 6 k cars) ∷ []) (says 0 steps p)
+      answerOf k cars passed = verdict (test (leb steps k) (says 6 k cars) ∷ []) (says 0 steps passed)
 
-      go : (p : ℕ) → (steps ≤ full) ⊎ (full < steps) → answerOf full (pullOf (derivedCodes n) full) p ≡ answerOf full (pullSize (derivedPlan n) full) p
-      go p (inl fits) = rw (le-leb steps full fits) refl
-      go p (inr over) =
-          let sorts = derived-sorts n f pos in
-          ap (λ (k : ℕ). answerOf full k p) (sym (pullSize-codes (derivedPlan n) f (sorts .codes) (sorts .never) full over))
+      go : (passed : ℕ) → (steps ≤ full) ⊎ (full < steps) → answerOf full (pullOf (p .codes) full) passed ≡ answerOf full (pullSize p full) passed
+      go passed (inl fits) = rw (le-leb steps full fits) refl
+      go passed (inr over) = ap (λ (k : ℕ). answerOf full k passed) (sym (pullSize-codes p f (sorts .codes) (sorts .never) full over))
 
-  module _ {limit steps : ℕ} {before : List ℕ} {r : Answer} (needed : steps ≡ stepsNeeded n) where
-    pub plan-refused : r ≡ says 5 steps 0 → limit < steps → Planned n limit before r before
-    plan-refused says-so m =
-        record {
-          answer = says-so ∙ (ap (λ (k : ℕ). says 5 k 0) needed ∙ refused (lt-leb (stepsNeeded n) limit (omega arith)));
-          codes = sym (ap (λ (a : Answer). written a (derivedCodes n) before) says-so);
-        }
-      where
-        refused : leb (stepsNeeded n) limit ≡ false → says 5 (stepsNeeded n) 0 ≡ planned n limit
-        refused e = rw e refl
+  -- the limit is kept, and the room and the passes are those of its codes
+  pub plan-settled : {needed limit steps : ℕ} {before codes after : List ℕ} {r : Answer} → steps ≡ p .steps → codes ≡ p .codes → needed ≤ limit
+      → Settles (p .night .room) steps codes before r after → Planned p needed limit before r after
+  plan-settled {needed} {limit} {steps} {before} {codes} {after} {r} same e m s =
+      record {
+        answer = s .answer ∙ (ap₂ (settled (p .night .room)) same e ∙ (settled-plan ∙ passed (le-leb needed limit m)));
+        codes = s .codes ∙ ap (λ (d : List ℕ). written r d before) e;
+      }
+    where
+      passed : leb needed limit ≡ true → verdict (roomTest p ∷ []) (says 0 (p .steps) (passes p (p .steps))) ≡ planned p needed limit
+      passed t = rw t refl
 
-    pub plan-settled : {derived after : List ℕ} → derived ≡ derivedCodes n → steps ≤ limit → Settles (n .room) steps derived before r after
-        → Planned n limit before r after
-    plan-settled {derived} {after} e m s =
-        record {
-          answer = s .answer ∙ (ap₂ (settled (n .room)) needed e ∙ (settled-derived ∙ passed (le-leb (stepsNeeded n) limit (omega arith))));
-          codes = s .codes ∙ ap (λ (d : List ℕ). written r d before) e;
-        }
-      where
-        passed : leb (stepsNeeded n) limit ≡ true
-            → verdict (roomTest (derivedPlan n) ∷ []) (says 0 (stepsNeeded n) (passes (derivedPlan n) (stepsNeeded n))) ≡ planned n limit
-        passed t = rw t refl
+-- the limit is not kept
+pub plan-refused : (p : Plan) {needed limit steps : ℕ} {before : List ℕ} {r : Answer} → steps ≡ needed → r ≡ says 5 steps 0 → limit < steps
+    → Planned p needed limit before r before
+plan-refused p {needed} {limit} {steps} {before} {r} same says-so m =
+    record {
+      answer = says-so ∙ (ap (λ (k : ℕ). says 5 k 0) same ∙ refused (lt-leb needed limit (omega arith)));
+      codes = sym (ap (λ (a : Answer). written a (p .codes) before) says-so);
+    }
+  where
+    refused : leb needed limit ≡ false → says 5 needed 0 ≡ planned p needed limit
+    refused e = rw e refl
 
 -- ---- derive
 
@@ -172,8 +165,9 @@ module _ (n : Night) (limit : ℕ) (before : List ℕ) {given : Answer} (is : gi
             sym (written-refused (deriveAnswer limits n limit (length before)) (derivedCodes n) before (λ z. h (ap (λ (a : Answer). a .number) same ∙ z)));
       }
 
-  pub derive-planned : {r : Answer} {after : List ℕ} → given .number ≡ 0 → Planned n limit before r after → Derives n limit before r after
-  unfolding deriveAnswer own-tests done
+  pub derive-planned : {r : Answer} {after : List ℕ} → given .number ≡ 0 → Planned (derivedPlan n) (stepsNeeded n) limit before r after
+      → Derives n limit before r after
+  unfolding deriveAnswer derivedPlan own-tests done
   derive-planned {r} z p =
       let same : r ≡ deriveAnswer limits n limit (length before) = goes-on-all (firstTests n limit (length before)) own-tests done given is r z (p .answer) in
       record { answer = same; codes = p .codes ∙ ap (λ (a : Answer). written a (derivedCodes n) before) same }

@@ -1,46 +1,41 @@
--- Laws of the codes given by number of breaks: the table has the code, and the codes given are those of the derived plan.
-use mathlib.Core.Path.{_≡_, sym, ap, ap₂, _∙_}
+-- Laws of the codes given by number of breaks: the fewest steps have a code for each, and the codes given are those of the derived plan.
+use mathlib.Core.Path.{_≡_, ap, ap₂, _∙_}
 use mathlib.Core.Bool.{Bool}
 use mathlib.Core.List.{List, _++_, map, map-map}
 use Prim.Native.Nat.{ℕ, _+_, _-_, _≤_, _<_}
 use native.Mathlib.Nat.{sub-zero}
 use native.Mathlib.Omega.{arith}
-use lib.ListN.{length, take, drop, length-append, length-drop}
-use lib.Seq.{take-at, drop-append-le}
+use lib.ListN.{length, take, length-append}
+use lib.Seq.{take-at}
+use Rattle.yard.specs.Limits.{limits}
 use Rattle.yard.specs.Words.{tally}
 use Rattle.yard.specs.Night.{Night, cars, breaksBefore}
-use Rattle.yard.specs.Codes.{F, usableCodes, allowedCodes, codeNumber, fewestSteps}
+use Rattle.yard.specs.Codes.{F, codeNumber, fewestSteps}
 use Rattle.yard.specs.Derived.{stepsNeeded, derivedCodes}
 use Rattle.yard.specs.Demands.{Listed}
-use Rattle.yard.proofs.general.Lists.{tally-small}
-use Rattle.yard.proofs.yards.Counting.{F-above}
-use Rattle.yard.proofs.yards.Allowed.{F-usable, allowed-drop}
+use Rattle.yard.specs.Calls.{DeriveGiven}
 use Rattle.yard.proofs.yards.DerivedPlan.{map-item, length-by-car, derived-length, breaks-fit}
-use Rattle.scan.specs.Front.{Under, Front}
+use Rattle.scan.specs.Front.{Under}
 use Rattle.breaks.specs.Numbers.{Numbers}
+use Rattle.derive.specs.Plans.{Needy, Needs}
 
--- the table behind the codes that are not allowed has the allowed ones
-module _ (closed : Bool) (W h : ℕ) (pos : 0 < W) {s table : List ℕ} {r first : ℕ} (codes : Front (usableCodes W h) s r table)
-    (is : first ≡ tally closed) where
-  pub first-within : first ≤ r
-  first-within = omega (arith, is, tally-small closed, codes .number, F-usable W h pos, F-above W h pos)
+module _ (lengths inbound : List ℕ) (closed : Bool) (tracks : ℕ) where
+  pub needs-all : {m more r : ℕ} {list : List ℕ} → Numbers lengths inbound m list → more ≡ tally closed → r ≡ fewestSteps tracks (m + more)
+      → Needs lengths inbound closed tracks r list
+  unfolding stepsNeeded
+  needs-all k one e =
+      record { steps = λ room. e ∙ ap₂ (λ (c d : ℕ). fewestSteps tracks (c + d)) (k .most) one; listed = k .listed }
 
-  pub part-allowed : take (r - first) (drop first table) ≡ allowedCodes closed W h
-  part-allowed =
-      let items = usableCodes W h in
-      let less : first ≤ length items = omega (arith, first-within, codes .number) in
-      ap (λ (l : List ℕ). take (r - first) (drop first l)) (codes .listed) ∙
-      (ap (take (r - first)) (drop-append-le first items (drop (length items) s) less) ∙
-      (take-at (drop first items) (drop (length items) s) (r - first) (omega (arith, codes .number, length-drop first items)) ∙
-      (ap (λ (k : ℕ). drop k items) is ∙ sym (allowed-drop closed W h pos))))
+-- a night whose tests were passed has what its breaks ask
+pub given-needy : (n : Night) {limit size : ℕ} → DeriveGiven limits n limit size → Needy (n .lengths) (n .inbound) (n .tracks) (limits .cars)
+given-needy n g =
+    record { lists = g .given .lists; cars = g .given .counts .cars; tracks = g .given .counts .tracks; room = g .given .counts .cars .1 }
 
 module _ (n : Night) (f : Listed (n .lengths) (n .inbound)) (pos : 0 < n .tracks) where
-  pub steps-needed : {m more steps : ℕ} {list : List ℕ} → Numbers (n .lengths) (n .inbound) m list → more ≡ tally (n .closed)
-      → steps ≡ fewestSteps (n .tracks) (m + more) → steps ≡ stepsNeeded n
-  unfolding stepsNeeded
-  steps-needed k one e = e ∙ ap₂ (λ (c d : ℕ). fewestSteps (n .tracks) (c + d)) (k .most) one
+  module _ {steps : ℕ} {list : List ℕ} (k : Needs (n .lengths) (n .inbound) (n .closed) (n .tracks) steps list) where
+    needed : steps ≡ stepsNeeded n
+    needed = k .steps (n .room)
 
-  module _ {m steps : ℕ} {list : List ℕ} (k : Numbers (n .lengths) (n .inbound) m list) (needed : steps ≡ stepsNeeded n) where
     number : ℕ → ℕ
     number = breaksBefore (n .lengths) (n .inbound)
 

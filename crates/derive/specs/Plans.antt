@@ -1,13 +1,15 @@
 -- The parts of a derivation: what is asked of a night first, and what the plan then answers and writes.
-use Prim.Native.Nat.{ℕ, _+_}
+use Prim.Native.Nat.{ℕ, _+_, _≤_}
 use mathlib.Core.Path.{_≡_}
-use mathlib.Core.List.{List, [], _∷_}
-use lib.ListN.{length}
+use mathlib.Core.Bool.{Bool}
+use mathlib.Core.List.{List, [], _∷_, map}
+use lib.ListN.{length, take}
 use Rattle.yard.specs.declared.Answer.{Answer}
 use Rattle.yard.specs.Limits.{limits}
-use Rattle.yard.specs.Night.{Night}
+use Rattle.yard.specs.Night.{Night, Plan, nightOf, cars, breaksBefore}
 use Rattle.yard.specs.Replay.{passes}
-use Rattle.yard.specs.Derived.{stepsNeeded, derivedCodes, derivedPlan}
+use Rattle.yard.specs.Derived.{stepsNeeded}
+use Rattle.yard.specs.Demands.{Within, Listed}
 use Rattle.yard.specs.Answers.{says, verdict, written, answers, bufferAsk, limitTest, roomTest}
 use Rattle.yard.specs.Calls.{opening}
 use Rattle.sorting.specs.Sums.{setBelow}
@@ -16,6 +18,18 @@ use Rattle.sorting.specs.Worked.{fullTest}
 -- the tests 1 to 4: those with which every call begins, and the buffer
 abbrev pub firstTests : Night → ℕ → ℕ → List Answer
 firstTests n limit size = answers (opening limits n limit [] (bufferAsk 3 (length (n .inbound)) size ∷ []))
+
+-- what is asked of a night before its breaks are counted into a list of this size
+pub record Needy (lengths inbound : List ℕ) (W size : ℕ) : Type 0 where
+  pub lists : Listed lengths inbound
+  pub cars : Within 1 (limits .cars) (length inbound)
+  pub tracks : Within 1 (limits .tracks) W
+  pub room : length inbound ≤ size
+
+-- the fewest steps of a night, whatever its room, and the breaks before each car, by car
+pub record Needs (lengths inbound : List ℕ) (closed : Bool) (tracks r : ℕ) (after : List ℕ) : Type 0 where
+  pub steps : (room : ℕ) → r ≡ stepsNeeded (nightOf lengths inbound closed tracks room)
+  pub listed : take (length inbound) after ≡ map (breaksBefore lengths inbound) (cars (length inbound))
 
 -- 6, or else the steps and the passes, worked out from the codes
 abbrev pub settled : ℕ → ℕ → List ℕ → Answer
@@ -26,11 +40,10 @@ pub record Settles (room steps : ℕ) (derived before : List ℕ) (r : Answer) (
   pub answer : r ≡ settled room steps derived
   pub codes : after ≡ written r derived before
 
--- 5, 6, or else the steps and the passes, of the derived plan
-abbrev pub planned : Night → ℕ → Answer
-planned n limit =
-    verdict (limitTest (stepsNeeded n) limit ∷ roomTest (derivedPlan n) ∷ []) (says 0 (stepsNeeded n) (passes (derivedPlan n) (stepsNeeded n)))
+-- 5, 6, or else the steps and the passes, of a plan of a night that needs so many steps
+abbrev pub planned : Plan → ℕ → ℕ → Answer
+planned p needed limit = verdict (limitTest needed limit ∷ roomTest p ∷ []) (says 0 (p .steps) (passes p (p .steps)))
 
-pub record Planned (n : Night) (limit : ℕ) (before : List ℕ) (r : Answer) (after : List ℕ) : Type 0 where
-  pub answer : r ≡ planned n limit
-  pub codes : after ≡ written r (derivedCodes n) before
+pub record Planned (p : Plan) (needed limit : ℕ) (before : List ℕ) (r : Answer) (after : List ℕ) : Type 0 where
+  pub answer : r ≡ planned p needed limit
+  pub codes : after ≡ written r (p .codes) before

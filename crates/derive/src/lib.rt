@@ -8,16 +8,17 @@ ghost use Prim.Native.Nat.{_-_, _≤_};
 ghost use lib.ListN.{length, getD};
 ghost use Rattle.yard.specs.Words.{tally};
 ghost use Rattle.yard.specs.Codes.{F, codeNumber};
+ghost use Rattle.yard.specs.Derived.{stepsNeeded, derivedPlan};
 ghost use Rattle.yard.specs.Limits.{limits};
 ghost use Rattle.yard.specs.Answers.{says, verdict};
 ghost use Rattle.yard.specs.Night.{nightOf, nightGiven};
 ghost use Rattle.yard.specs.Calls.{DeriveGiven, Derives};
 ghost use Rattle.yard.specs.Demands.{Within};
 ghost use Rattle.scan.specs.Front.{Under};
-ghost use Rattle.derive.specs.Plans.{firstTests, Settles, Planned};
+ghost use Rattle.derive.specs.Plans.{firstTests, Needy, Needs, Settles, Planned};
 
 // Puts item number q of a list in the place of each number q.
-fn look_up(items: &[u16], numbers: &mut [u16])
+pub fn look_up(items: &[u16], numbers: &mut [u16])
     requires { ⌜ Under (length (now items)) (now numbers) ⌝ }
     ensures { λ _. ⌜ now (numbers .exit) ≡ map (λ q. getD (now (items .entry)) q 0) (now (numbers .entry)) ⌝ }
 {
@@ -27,19 +28,35 @@ fn look_up(items: &[u16], numbers: &mut [u16])
     }
 }
 
-// Puts the allowed code number q in the place of each number q: the usable code number q or, where the night is closed, number q + 1.
+// Puts the allowed code number q in the place of each number q.
 fn give(closed: bool, tracks: usize, steps: usize, numbers: &mut [u16])
     requires { ⌜ Within 1 (limits .tracks) tracks × (steps ≤ limits .steps) × Under (F tracks steps - tally closed) (now numbers) ⌝ }
     ensures { λ _. ⌜ now (numbers .exit) ≡ map (codeNumber closed tracks steps) (now (numbers .entry)) ⌝ }
 {
     let mut table = [0u16; codes::CODES];
-    let codes = codes::usable_codes(tracks, steps, &mut table);
-    let first = scan::tally(closed) as usize;
-    look_up(&table[first..codes], numbers);
+    let allowed = codes::allowed_codes(closed, tracks, steps, &mut table);
+    let from = allowed.from;
+    let to = allowed.to;
+    look_up(&table[from..to], numbers);
+}
+
+// Writes the breaks before each car in its train, by car, and answers the fewest steps that the night needs.
+pub fn needed(
+    lengths: &[u16],
+    inbound: &[u16],
+    closed: bool,
+    tracks: usize,
+    into: &mut [u16],
+) -> usize
+    requires { ⌜ Needy (now lengths) (now inbound) tracks (length (now into)) ⌝ }
+    ensures { λ r. ⌜ Needs (now (lengths .entry)) (now (inbound .entry)) closed tracks r (now (into .exit)) ⌝ }
+{
+    let most = breaks::numbers(lengths, inbound, into);
+    codes::fewest_steps(tracks, most + scan::tally(closed) as usize)
 }
 
 // 6 for the codes of a plan, or else its steps and passes, with the codes written.
-fn settle(room: usize, steps: usize, derived: &[u16], codes: &mut [u16]) -> Answer
+pub fn settle(room: usize, steps: usize, derived: &[u16], codes: &mut [u16]) -> Answer
     requires { ⌜ (steps ≤ limits .steps) × (length (now derived) ≤ limits .cars) × (length (now derived) ≤ length (now codes)) ⌝ }
     ensures { λ r. ⌜ Settles room steps (now (derived .entry)) (now (codes .entry)) r (now (codes .exit)) ⌝ }
 {
@@ -63,11 +80,11 @@ fn plan(
     codes: &mut [u16],
 ) -> Answer
     requires { ⌜ DeriveGiven limits (nightOf (now lengths) (now inbound) closed tracks room) limit (length (now codes)) ⌝ }
-    ensures { λ r. ⌜ Planned (nightOf (now (lengths .entry)) (now (inbound .entry)) closed tracks room) limit (now (codes .entry)) r (now (codes .exit)) ⌝ }
+    ensures { λ r. ⌜ Planned (derivedPlan (nightOf (now (lengths .entry)) (now (inbound .entry)) closed tracks room))
+        (stepsNeeded (nightOf (now (lengths .entry)) (now (inbound .entry)) closed tracks room)) limit (now (codes .entry)) r (now (codes .exit)) ⌝ }
 {
     let mut derived = [0u16; yard::CARS];
-    let most = breaks::numbers(lengths, inbound, &mut derived);
-    let steps = codes::fewest_steps(tracks, most + scan::tally(closed) as usize);
+    let steps = needed(lengths, inbound, closed, tracks, &mut derived);
     if limit < steps {
         return intake::answer(5, steps, 0);
     }
@@ -77,7 +94,7 @@ fn plan(
 }
 
 // The tests 1 to 4 of a night, its step limit and the size of the buffer; they ask nothing of its mark.
-fn given(
+pub fn given(
     lengths: &[u16],
     inbound: &[u16],
     tracks: usize,

@@ -67,7 +67,7 @@ pub fn fullest(codes: &[u16], steps: usize) -> usize
 }
 
 // The set bits of a code.
-fn ones(code: u16) -> u16
+pub fn ones(code: u16) -> u16
     ensures { λ r. ⌜ (r ≡ ones code) × (r ≤ 16) ⌝ }
 {
     u16::count_ones(code) as u16

@@ -349,10 +349,10 @@ module _ (L : Limits) (n : Night) (limit size : ℕ) where
       ))
 
   -- what is asked before the limit
-  abbrev first-asks : List Ask
+  abbrev pub first-asks : List Ask
   first-asks = opening L n limit [] (bufferAsk 3 (length (n .inbound)) size ∷ [])
 
-  first-hold : AllHold first-asks ↔ DeriveGiven L n limit size
+  pub first-hold : AllHold first-asks ↔ DeriveGiven L n limit size
   first-hold =
       let opened = opening-holds L n limit [] (bufferAsk 3 (length (n .inbound)) size ∷ []) in (
         λ all. let (given, _, more) = opened .0 all in record { given = given; buffer = more .0 },

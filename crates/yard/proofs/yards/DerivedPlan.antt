@@ -1,9 +1,10 @@
 -- A plan by its codes, and the derived plan: its codes are allowed, rise at each break, and so pull no car early and build the trains.
 use mathlib.Core.Path.{_≡_, sym, ap, ap₂, _∙_, subst}
+use mathlib.Core.Logic.{⊎-elim}
 use mathlib.Core.Bool.{Bool, true, false, cond, not}
 use mathlib.Core.List.{List, _∷_, map}
 use Prim.Native.Nat.{ℕ, zero, suc, _+_, _-_, _^_, _≤_, _<_}
-use native.Mathlib.Nat.{add-zero, add-suc, suc-add}
+use native.Mathlib.Nat.{add-zero, add-suc, suc-add, eq-or-lt-of-le}
 use native.Mathlib.Omega.{arith}
 use lib.ListN.{length, getD, length-map}
 use borrow.Author.Tests.{le-leb, lt-ltb, eqb-true}
@@ -133,6 +134,10 @@ module _ (closed : Bool) (W h : ℕ) (pos : 0 < W) where
   unfolding codeNumber allowedCodes
   codeNumber-rising q r l m = kept-rising (allowed closed W h) 0 (2 ^ h) q r l (omega (arith, F-allowed closed W h pos))
 
+  pub codeNumber-mono : (q r : ℕ) → q ≤ r → r + tally closed < F W h → codeNumber closed W h q ≤ codeNumber closed W h r
+  codeNumber-mono q r l m =
+      ⊎-elim (λ e. omega (arith, ap (codeNumber closed W h) e)) (λ lt. omega (arith, codeNumber-rising q r lt m)) (eq-or-lt-of-le l)
+
 -- ---- breaks along a train
 
 pub breaks-mono : (inbound : List ℕ) (j d n : ℕ) → breaks inbound j n ≤ breaks inbound j (n + d)
@@ -189,33 +194,36 @@ module _ (n : Night) (f : Listed (n .lengths) (n .inbound)) where
     unfolding stepsNeeded
     breaks-fit car w = omega (arith, before-most car w, fewest-least (n .tracks) (mostBreaks (n .lengths) (n .inbound) + tally (n .closed)) pos .holds)
 
-    pub derived-sorts : Sorts (derivedPlan n)
-    unfolding derivedPlan derivedCodes
-    derived-sorts =
-        coded-sorts n f pos H (λ car. code (number car))
+    -- numbers by car that fit among the allowed codes and rise along each pair, by one at a break, give codes that sort
+    pub numbered-sorts : (h : ℕ) (y : ℕ → ℕ)
+        → ((car : ℕ) → Within 1 (length (n .inbound)) car → y car + tally (n .closed) < F (n .tracks) h)
+        → ((j : ℕ) → 1 ≤ j → j < length (n .inbound) → pair (n .lengths) j ≡ true → y j + tally (broken (n .inbound) j) ≤ y (suc j))
+        → Sorts (coded n h (λ car. codeNumber (n .closed) (n .tracks) h (y car)))
+    numbered-sorts h y fit rise =
+        coded-sorts n f pos h (λ car. code (y car))
         (λ car w.
-        let (here, below) = codeNumber-allowed (n .closed) W H pos (number car) (breaks-fit car w) in (
+        let (here, below) = codeNumber-allowed (n .closed) W h pos (y car) (fit car w) in (
           below,
-          usable-gaps W H (code (number car)) pos .0 (allowed-usable (n .closed) W H (code (number car)) here),
-          allowed-some (n .closed) W H (code (number car)) here,
+          usable-gaps W h (code (y car)) pos .0 (allowed-usable (n .closed) W h (code (y car)) here),
+          allowed-some (n .closed) W h (code (y car)) here,
         ))
-        (λ j l m e. rising j m (broken (n .inbound) j) (before-pair j l m e))
+        (λ j l m e. rising j m (broken (n .inbound) j) (rise j l m e))
       where
         W : ℕ
         W = n .tracks
 
-        H : ℕ
-        H = stepsNeeded n
-
         code : ℕ → ℕ
-        code q = codeNumber (n .closed) W H q
+        code q = codeNumber (n .closed) W h q
 
-        -- the next car of a train has the same code, or after a break a greater one
-        rising : (j : ℕ) → j < length (n .inbound) → (b : Bool) → number (suc j) ≡ number j + tally b
-            → ruled (code (number j)) (code (number (suc j))) b ≡ true
-        rising j m true e =
-            lt-ltb (code (number j)) (code (number (suc j)))
-            (codeNumber-rising (n .closed) W H pos (number j) (number (suc j)) (omega arith) (breaks-fit (suc j) (omega arith, m)))
-        rising j m false e =
-            let same : number j ≡ number (suc j) = omega arith in
-            le-leb (code (number j)) (code (number (suc j))) (omega (arith, ap code same))
+        -- the next car of a train has no smaller code, and after a break a greater one
+        rising : (j : ℕ) → j < length (n .inbound) → (b : Bool) → y j + tally b ≤ y (suc j) → ruled (code (y j)) (code (y (suc j))) b ≡ true
+        rising j m true le =
+            lt-ltb (code (y j)) (code (y (suc j)))
+            (codeNumber-rising (n .closed) W h pos (y j) (y (suc j)) (omega arith) (fit (suc j) (omega arith, m)))
+        rising j m false le =
+            let up : y j ≤ y (suc j) = omega arith in
+            le-leb (code (y j)) (code (y (suc j))) (codeNumber-mono (n .closed) W h pos (y j) (y (suc j)) up (fit (suc j) (omega arith, m)))
+
+    pub derived-sorts : Sorts (derivedPlan n)
+    unfolding derivedPlan derivedCodes
+    derived-sorts = numbered-sorts (stepsNeeded n) number breaks-fit (λ j l m e. omega (arith, before-pair j l m e))

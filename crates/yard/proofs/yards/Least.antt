@@ -45,11 +45,11 @@ passing-most p n = omega (arith, passing-more p 0 n, ap (λ (k : ℕ). passing p
 -- ---- no plan has fewer steps
 
 module _ (p : Plan) (f : Listed (p .night .lengths) (p .night .inbound)) (pos : 0 < p .night .tracks) (sorts : Sorts p) where
-  u : ℕ → Bool
+  abbrev u : ℕ → Bool
   u = allowed (p .night .closed) (p .night .tracks) (p .steps)
 
-  car-allowed : (car : ℕ) → Within 1 (length (p .night .inbound)) car → u (codeOf p car) ≡ true
-  unfolding u
+  -- each car has an allowed code
+  pub car-allowed : (car : ℕ) → Within 1 (length (p .night .inbound)) car → allowed (p .night .closed) (p .night .tracks) (p .steps) (codeOf p car) ≡ true
   car-allowed car w =
       usable-allowed (p .night .closed) (p .night .tracks) (p .steps) (codeOf p car)
       (clear-some p f pos (sorts .codes) (sorts .clear) car w)
@@ -99,7 +99,6 @@ module _ (p : Plan) (f : Listed (p .night .lengths) (p .night .inbound)) (pos : 
   -- so the breaks of a train, and one more, are at most the allowed codes there are
   train-breaks : (t : ℕ) → Within 1 (length (p .night .lengths)) t
       → breaksIn (p .night .lengths) (p .night .inbound) t + tally (p .night .closed) < F (p .night .tracks) (p .steps)
-  unfolding u
   train-breaks zero w = absurd (omega (arith, w .0))
   train-breaks (suc i) w =
       omega (

@@ -1,6 +1,5 @@
 -- A plan's yard at a stage: each car stands on exactly one track, at one place; passes and pulls in terms of the codes.
-use mathlib.Core.Path.{_≡_, refl, sym, ap, ap₂, _∙_, subst, fun-ext}
-use mathlib.Core.Logic.{_⊎_, inl, inr, ⊎-elim}
+use mathlib.Core.Path.{_≡_, refl, sym, ap, _∙_, subst}
 use mathlib.Core.Bool.{Bool, true, false, cond}
 use mathlib.Core.List.{List, [], _∷_, map}
 use Prim.Native.Nat.{ℕ, zero, suc, _+_, _-_, _%_, _^_, _≤_, _<_}
@@ -10,25 +9,24 @@ use lib.Dec.{ltb, eqb}
 use lib.Count.{ones}
 use lib.ListN.{length, getD}
 use lib.Seq.{ext-getD}
-use borrow.Author.Tests.{lt-ltb, le-ltb, ltb-true, eqb-true, eq-eqb, ne-eqb}
-use Rattle.yard.specs.Words.{tally, total, keep, count, listed, place, first, upFrom}
-use Rattle.yard.specs.Night.{Night, Plan, cars, itemOf, trainOf}
+use borrow.Author.Tests.{lt-ltb, ltb-true, eq-eqb}
+use Rattle.yard.specs.Words.{tally, total, keep, count, listed, place}
+use Rattle.yard.specs.Night.{Plan, cars, itemOf}
 use Rattle.yard.specs.Replay.{bit, nextStep, target, codeOf, destination, yardAt, passes, pulled, pullSize, trackOf, placeOf}
 use Rattle.yard.specs.Demands.{Within, Listed, CodesFormed, NeverEarly, EachOnce}
-use Rattle.yard.proofs.general.Bools.{clash, not-so}
-use Rattle.yard.proofs.general.Numbers.{le-or-lt}
+use Rattle.yard.proofs.general.Bools.{not-so}
 use Rattle.yard.proofs.general.First.{first-found}
-use Rattle.yard.proofs.general.Lists.{count-keep, total-same, total-alike, total-length, count-upFrom-in, upFrom-bounds, length-upFrom}
+use Rattle.yard.proofs.general.Lists.{count-keep, total-same, total-alike, upFrom-bounds}
 use Rattle.yard.proofs.general.Order.{place-among}
 use Rattle.yard.proofs.yards.Replay.{Clean, sorted, sorted-count, standing-sorted}
-use Rattle.yard.proofs.yards.Codes.{setBits, ones-setBits, ones-code}
+use Rattle.yard.proofs.yards.Codes.{setBits, ones-setBits}
 use Rattle.yard.proofs.yards.Passes.{taken-total, rolled-set}
-use Rattle.yard.proofs.yards.Standing.{location, standing-count, standing-where, standing-once}
+use Rattle.yard.proofs.yards.Standing.{location, standing-where, standing-once}
 use Rattle.yard.proofs.yards.Formed.{place-holds}
 use Rattle.yard.proofs.yards.Trains.{itemOf-suc}
 use Rattle.yard.proofs.yards.Plans.{clean-of-never}
-use Rattle.yard.proofs.yards.Building.{train-cars, came-once, came-within}
-use Rattle.yard.proofs.yards.DerivedPlan.{map-item, by-car, length-by-car}
+use Rattle.yard.proofs.yards.Building.{train-cars, came-once}
+use Rattle.yard.proofs.yards.DerivedPlan.{map-item, length-by-car}
 
 -- ---- one place for each car
 
@@ -141,7 +139,7 @@ pub total-cars : (inbound : List ℕ) → EachOnce inbound → (g : ℕ → ℕ)
 total-cars inbound once g =
     total-alike g inbound (cars (length inbound)) 1 (length inbound) (λ x m. upFrom-bounds x 1 (length inbound) (subst (λ (k : ℕ). 0 < k) (once x) m)) once
 
-total-map : (g k : ℕ → ℕ) (l : List ℕ) → total g (map k l) ≡ total (λ x. g (k x)) l
+pub total-map : (g k : ℕ → ℕ) (l : List ℕ) → total g (map k l) ≡ total (λ x. g (k x)) l
 total-map g k [] = refl
 total-map g k (x ∷ l) = omega (arith, total-map g k l)
 
