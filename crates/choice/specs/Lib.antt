@@ -1,0 +1,3 @@
+-- What the contracts of this crate cite besides the yard's written meaning.
+pub mod Choice
+pub mod Rows
