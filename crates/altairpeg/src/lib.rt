@@ -13,6 +13,7 @@ ghost use Rattle.yard.specs.Codes.{fewestTracks};
 ghost use Rattle.yard.specs.Calls.{Derives, Checks, Replays};
 ghost use Rattle.yard.specs.Card.{Reads, Writes};
 ghost use Rattle.yard.specs.Price.{Prices};
+ghost use Rattle.fewest.specs.Fewest.{FindsFewest};
 
 // Derive: the plan of a night with the fewest steps, its codes into the lent buffer, its steps and passes as the answer.
 #[no_mangle]
@@ -27,6 +28,22 @@ pub extern "C" fn altairpeg_derive(
         (now (codes .entry)) r (now (codes .exit)) ⌝ }
 {
     derive::derive(lengths, inbound, mark != 0, counts, codes)
+}
+
+// Fewest passes: of all codes of the given steps that build the trains, in a closed night without code 0, those with the fewest passes, the
+// smallest list among equals, into the lent buffer, the steps and passes as the answer.
+#[no_mangle]
+pub extern "C" fn altairpeg_fewest_passes(
+    lengths: &[u16],
+    inbound: &[u16],
+    mark: usize,
+    counts: Counts,
+    codes: &mut [u16],
+) -> Answer
+    ensures { λ r. ⌜ FindsFewest (nightGiven (now (lengths .entry)) (now (inbound .entry)) (closedBy mark) counts) (counts .steps)
+        (now (codes .entry)) r (now (codes .exit)) ⌝ }
+{
+    fewest::fewest_passes(lengths, inbound, mark != 0, counts, codes)
 }
 
 // Check: a plan offered by anyone, accepted or refused by its replay.

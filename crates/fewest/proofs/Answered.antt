@@ -1,0 +1,55 @@
+-- Laws of the answers: the outcome of the call, made of the tests before and of the plan found.
+use mathlib.Core.Path.{_≡_, refl, sym, ap, _∙_}
+use mathlib.Core.List.{List, [], _∷_}
+use Prim.Native.Nat.{ℕ}
+use lib.ListN.{length}
+use Rattle.yard.specs.declared.Answer.{Answer}
+use Rattle.yard.specs.Limits.{limits}
+use Rattle.yard.specs.Night.{Night}
+use Rattle.yard.specs.Replay.{passes}
+use Rattle.yard.specs.Derived.{stepsNeeded}
+use Rattle.yard.specs.Answers.{says, verdict, written, Ask, bufferAsk, limitTest, roomTest}
+use Rattle.yard.specs.Calls.{DeriveGiven}
+use Rattle.yard.proofs.Demands.{opening-sound, first-asks, first-hold}
+use Rattle.yard.proofs.calls.Asks.{accepted-exactly}
+use Rattle.yard.proofs.calls.Rights.{buffer-right}
+use Rattle.yard.proofs.calls.Verdict.{stops-all, goes-on-all, written-refused}
+use Rattle.derive.specs.Plans.{firstTests}
+use Rattle.fewest.specs.Fewest.{planIn, fewestAnswer, FindsFewest}
+use Rattle.fewest.specs.Trains.{Found}
+
+-- the tests 1 to 4 are passed where what they ask holds
+first-passed : (n : Night) (h size : ℕ) → DeriveGiven limits n h size → verdict (firstTests n h size) (says 0 0 0) .number ≡ 0
+first-passed n h size g =
+    let own : List Ask = bufferAsk 3 (length (n .inbound)) size ∷ [] in
+    accepted-exactly (says 0 0 0) refl (first-asks limits n h size)
+    (opening-sound limits n h [] own tt (λ _. (buffer-right 3 (length (n .inbound)) size, λ _. tt))) .1 (first-hold limits n h size .1 g)
+
+module _ (n : Night) (h : ℕ) (before : List ℕ) {given : Answer} (is : given ≡ verdict (firstTests n h (length before)) (says 0 0 0)) where
+  own-tests : List ℕ → List Answer
+  own-tests codes = limitTest (stepsNeeded n) h ∷ roomTest (planIn n h codes) ∷ []
+
+  done : List ℕ → Answer
+  done codes = says 0 h (passes (planIn n h codes) h)
+
+  -- refused by those tests, whatever codes there are
+  pub fewest-refused : (given .number ≡ 0 → ⊥) → FindsFewest n h before given before
+  unfolding fewestAnswer own-tests done
+  fewest-refused none =
+      record {
+        found = [];
+        fewest = λ g s. absurd (none (ap (λ (a : Answer). a .number) is ∙ first-passed n h (length before) g));
+        answer = stops-all (firstTests n h (length before)) (own-tests []) (done []) given is none;
+        codes = sym (written-refused given [] before none);
+      }
+
+  -- passed, so that the plan answers
+  pub fewest-found : {r : Answer} {after : List ℕ} → given .number ≡ 0 → Found n h before r after → FindsFewest n h before r after
+  unfolding fewestAnswer own-tests done
+  fewest-found {r} z found =
+      record {
+        found = found .codes;
+        fewest = λ g s. found .fewest s;
+        answer = goes-on-all (firstTests n h (length before)) (own-tests (found .codes)) (done (found .codes)) given is r z (found .planned .answer);
+        codes = found .planned .codes;
+      }

@@ -1,0 +1,3 @@
+-- What the call promises, and what the contracts of this crate cite besides.
+pub mod Fewest
+pub mod Trains
