@@ -144,6 +144,21 @@ altairpeg_answer altairpeg_derive(
     size_t mark, altairpeg_counts counts,
     uint16_t *codes, size_t codes_len);
 
+/* Finds, for a night and a given number of steps, counts.steps, the codes that build the trains, in a closed night
+ * without code 0, with the fewest passes; of those with as few, the list that is smallest at the first differing car.
+ * Tests: 1 (cars, trains, tracks, room, steps), 2, 3, 4 (codes), 5, 6.
+ * Writes: the code of each car to the first n items of codes.
+ * Answers: A the steps, as given, B the passes of the whole plan.
+ * 5 says that there are no such codes of these steps, and A tells the fewest steps of which there are; 6 speaks of the
+ * found codes alone, and may come although derive, or fewer steps, find room. Where two such calls are accepted, the
+ * one with more steps has no more passes; and where derive is accepted too, with the steps that it tells no more than
+ * derive's. */
+altairpeg_answer altairpeg_fewest_passes(
+    const uint16_t *lengths, size_t lengths_len,
+    const uint16_t *inbound, size_t inbound_len,
+    size_t mark, altairpeg_counts counts,
+    uint16_t *codes, size_t codes_len);
+
 /* Checks a plan offered by anyone, by its replay.
  * Tests: 1 (cars, trains, tracks, room, steps), 2, 3, 4 (codes), 7, in a closed night 14, then 8, 6, 9.
  * Writes: nothing.

@@ -90,6 +90,57 @@ static void marks(void) {
     }
 }
 
+/* The fewest passes of one train of six cars: its codes, and nothing behind them. */
+static void fewest(const uint16_t *order, size_t mark, altairpeg_counts given, size_t passes, const uint16_t *wanted) {
+    uint16_t codes[7] = {9, 9, 9, 9, 9, 9, 9};
+    altairpeg_answer r = altairpeg_fewest_passes(lengths, 1, order, 6, mark, given, codes, 7);
+    expect(same(r, ALTAIRPEG_DONE, given.steps, passes), "fewest passes");
+    expect(memcmp(codes, wanted, 6 * sizeof *codes) == 0 && codes[6] == 9, "codes of the fewest passes, and no more");
+}
+
+/* The same call, with room for so many codes, where it refuses and writes nothing. */
+static void no_fewest(
+    const uint16_t *order, size_t mark, altairpeg_counts given, size_t codes_len, size_t number, size_t a, size_t b) {
+    uint16_t codes[6] = {9, 9, 9, 9, 9, 9};
+    altairpeg_answer r = altairpeg_fewest_passes(lengths, 1, order, 6, mark, given, codes, codes_len);
+    expect(same(r, number, a, b), "fewest passes, refused");
+    for (int car = 1; car <= 6; car++) expect(codes[car - 1] == 9, "no code written");
+}
+
+/* Night N has four blocks without a break, 1 2 | 3 4 | 5 | 6, and each must get a larger code than the one before. On
+ * two tracks only 0 has no set bit and only 1 and 2 have one (4 would wait on track 0, which step 0 pulls), so open
+ * nothing beats 0 0 1 1 2 3, and closed nothing beats two cars with 1, two with 2 and two bits for 5 and 6: what derive
+ * gives, and a step more changes nothing. */
+static void fewest_of_n(void) {
+    for (size_t steps = 2; steps <= 3; steps++) fewest(inbound, ALTAIRPEG_OPEN, counts(2, 3, steps), 11, open_codes);
+    fewest(inbound, ALTAIRPEG_CLOSED, counts(2, 4, 3), 14, closed_codes);
+    no_fewest(inbound, ALTAIRPEG_OPEN, counts(2, 3, 1), 6, ALTAIRPEG_LIMIT_TOO_LOW, 2, 0);
+    no_fewest(inbound, ALTAIRPEG_CLOSED, counts(2, 4, 2), 6, ALTAIRPEG_LIMIT_TOO_LOW, 3, 0);
+    no_fewest(inbound, ALTAIRPEG_OPEN, counts(2, 2, 2), 6, ALTAIRPEG_TRACK_OVERFILLED, 0, 3);
+    no_fewest(inbound, ALTAIRPEG_OPEN, counts(2, 3, 9), 6, ALTAIRPEG_COUNT_OUT_OF_RANGE, 5, 0);
+    no_fewest(inbound, ALTAIRPEG_OPEN, counts(2, 3, 1), 5, ALTAIRPEG_LIST_OR_BUFFER_WRONG, 3, 0);
+}
+
+/* Inbound 6 4 5 3 2 1 has five blocks, 1 | 2 | 3 | 4 5 | 6, of which one has two cars. On four tracks
+ * - three steps have the codes 0 to 7, only 1, 2 and 4 with one set bit. Each car but 1 has a bit and some block has
+ *   two, so 6 bits are the least, with that block a single car: it is 6, which gets 5, since 3 for car 3, or for 2,
+ *   leaves but one code of one bit. Derive, which gives 3 to the pair and 4 to car 6, has 7.
+ * - four steps have 8 as well, so each car but 1 has one bit: 5. The code 16 of five steps would wait on track 0.
+ * - closed, three steps have 1, 2 and 4 for three blocks and two bits for two of one car: 8. Four steps have 8 for
+ *   another block: 7, by 1 2 3 4 4 8 and by 1 2 4 8 8 9, of which the first is smaller at car 3.
+ * Open, step 2 of three pulls 4, 5 and 6, and of four only 4 and 5: where there is room for 2, the first is refused. */
+static void fewest_of_blocks(void) {
+    const uint16_t order[] = {6, 4, 5, 3, 2, 1};
+    const uint16_t three[] = {0, 1, 2, 4, 4, 5}, four[] = {0, 1, 2, 4, 4, 8};
+    const uint16_t closed_three[] = {1, 2, 3, 4, 4, 5}, closed_four[] = {1, 2, 3, 4, 4, 8};
+    fewest(order, ALTAIRPEG_OPEN, counts(4, 3, 3), 12, three);
+    for (size_t steps = 4; steps <= ALTAIRPEG_STEPS; steps++) fewest(order, ALTAIRPEG_OPEN, counts(4, 2, steps), 11, four);
+    fewest(order, ALTAIRPEG_CLOSED, counts(4, 3, 3), 14, closed_three);
+    fewest(order, (size_t)-1, counts(4, 2, 4), 13, closed_four);
+    no_fewest(order, ALTAIRPEG_OPEN, counts(4, 3, 2), 6, ALTAIRPEG_LIMIT_TOO_LOW, 3, 0);
+    no_fewest(order, ALTAIRPEG_OPEN, counts(4, 2, 3), 6, ALTAIRPEG_TRACK_OVERFILLED, 2, 3);
+}
+
 static uint16_t card_lengths[ALTAIRPEG_TRAINS], card_inbound[ALTAIRPEG_CARS], card_codes[ALTAIRPEG_CARS];
 
 static altairpeg_card_answer read_first(size_t length) {
@@ -139,6 +190,8 @@ static void prices(void) {
 int main(void) {
     open_night();
     marks();
+    fewest_of_n();
+    fewest_of_blocks();
     card_answer();
     cards();
     prices();

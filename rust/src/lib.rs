@@ -37,7 +37,7 @@ pub use words::Kind;
 /// A derived plan: its steps, the hump passes of the whole plan, and the code of each car.
 #[derive(Clone, Debug, PartialEq, Eq)]
 pub struct Derived {
-    /// The fewest steps.
+    /// The steps: the fewest from [`derive()`], those given from [`fewest_passes`].
     pub steps: usize,
     /// The hump passes of the whole plan.
     pub passes: usize,
@@ -157,18 +157,47 @@ fn items(night: Night) -> Vec<u16> {
     vec![0; night.inbound.len().min(CARS)]
 }
 
-/// Derives the plan with the fewest steps; refuses 1, 2, 3, 5 or 6.
-///
-/// In a closed night no car gets code 0. 5 says that no plan that builds the trains, and in a closed
-/// night has no code 0, keeps to the limit; 6 speaks of the derived plan alone.
-pub fn derive(night: Night, limit: usize) -> Result<Derived, Refusal> {
+/// What a call that finds codes for a night says: steps, passes and the codes.
+fn derived(
+    call: fn(Night, usize, &mut [u16]) -> Answer,
+    night: Night,
+    steps: usize,
+) -> Result<Derived, Refusal> {
     let mut codes = items(night);
-    let answer = done(altairpeg_sys::derive(night, limit, &mut codes))?;
+    let answer = done(call(night, steps, &mut codes))?;
     Ok(Derived {
         steps: answer.a,
         passes: answer.b,
         codes,
     })
+}
+
+/// Derives the plan with the fewest steps; refuses 1, 2, 3, 5 or 6.
+///
+/// In a closed night no car gets code 0. 5 says that no plan that builds the trains, and in a closed
+/// night has no code 0, keeps to the limit; 6 speaks of the derived plan alone.
+pub fn derive(night: Night, limit: usize) -> Result<Derived, Refusal> {
+    derived(altairpeg_sys::derive, night, limit)
+}
+
+/// Finds the plan of just so many steps with the fewest passes; refuses 1, 2, 3, 5 or 6.
+///
+/// Of the plans with as few it is the one whose list of codes is smallest at the first differing car. In a
+/// closed night no car gets code 0. 5 says that no codes of these steps build the trains, and A is the fewest
+/// steps of which some do; 6 speaks of the found codes alone. One step more never makes the passes more:
+///
+/// ```
+/// use altairpeg::{derive, fewest_passes, Mark, Night};
+///
+/// let night = Night { lengths: &[6], inbound: &[6, 4, 5, 3, 2, 1], tracks: 4, room: 3, mark: Mark::Open };
+/// assert_eq!(derive(night, 8)?.passes, 13);
+/// assert_eq!([3, 4, 5].map(|steps| fewest_passes(night, steps).unwrap().passes), [12, 11, 11]);
+/// assert_eq!(fewest_passes(night, 4)?.codes, [0, 1, 2, 4, 4, 8]);
+/// assert_eq!(fewest_passes(night, 2).unwrap_err().a, 3);
+/// # Ok::<(), altairpeg::Refusal>(())
+/// ```
+pub fn fewest_passes(night: Night, steps: usize) -> Result<Derived, Refusal> {
+    derived(altairpeg_sys::fewest_passes, night, steps)
 }
 
 /// Checks a plan offered by anyone, by its replay; refuses 1, 2, 3, 4, 7, 14 (only in a closed

@@ -1,6 +1,6 @@
 //! Inputs at the ends of what the types hold: none of them stops a call.
 
-use altairpeg::{check, derive, price, read_card, replay, write_card};
+use altairpeg::{check, derive, fewest_passes, price, read_card, replay, write_card};
 use altairpeg::{Kind, Mark, Night, Plan, Refusal, Timings, CARS, TRAINS};
 
 const NIGHT: Night = Night {
@@ -41,11 +41,12 @@ fn all_refuse(plan: Plan, number: usize, a: usize) {
     assert_eq!(card(plan), Err(refused(number, a)));
 }
 
-/// What derive says of a night, which must be the same, open or closed.
-fn derive_refuses(night: Night, limit: usize, number: usize, a: usize) {
+/// What the calls that find codes for a night say of it, which must be the same, open or closed.
+fn derive_refuses(night: Night, steps: usize, number: usize, a: usize) {
     for mark in MARKS {
         let night = Night { mark, ..night };
-        assert_eq!(derive(night, limit), Err(refused(number, a)));
+        assert_eq!(derive(night, steps), Err(refused(number, a)));
+        assert_eq!(fewest_passes(night, steps), Err(refused(number, a)));
     }
 }
 
@@ -175,6 +176,10 @@ fn the_largest_night() {
         assert_eq!((derived.steps, derived.passes), (steps, (steps + 1) * CARS));
         assert_eq!(derived.codes, [steps as u16; CARS]);
         assert!(check(derived.plan(night)).is_ok());
+        assert_eq!(fewest_passes(night, steps).unwrap(), derived);
+        let most = fewest_passes(night, 8).unwrap();
+        assert_eq!((most.steps, most.passes), (8, derived.passes));
+        assert_eq!(most.codes, derived.codes);
     }
     let derived = derive(open, 0).unwrap();
     let bytes = card(derived.plan(open)).unwrap();

@@ -1,6 +1,6 @@
-//! The trial nights of document 01, each under its number, and closed nights, through the archive.
+//! The trial nights of document 01, each under its number, closed nights, and the fewest passes, through the archive.
 
-use altairpeg::{check, derive, read_card, replay, write_card};
+use altairpeg::{check, derive, fewest_passes, read_card, replay, write_card};
 use altairpeg::{Checked, Kind, Mark, Night, Plan, Refusal};
 
 const N: [u16; 6] = [3, 6, 1, 5, 2, 4];
@@ -303,4 +303,69 @@ fn a_mark_there_and_back() {
     assert_eq!([Mark::Open, Mark::Closed].map(Mark::number), [0, 1]);
     assert_eq!([0, 1].map(Mark::of), [Mark::Open, Mark::Closed]);
     assert_eq!([2, usize::MAX].map(Mark::of), [Mark::Closed; 2]);
+}
+
+/// The fewest passes of a night with so many steps, which check counts too, and the codes.
+fn fewest(night: Night, steps: usize) -> (usize, Vec<u16>) {
+    let found = fewest_passes(night, steps).unwrap();
+    assert_eq!(found.steps, steps);
+    assert_eq!(check(found.plan(night)).unwrap().passes, found.passes);
+    (found.passes, found.codes)
+}
+
+/// One train on four tracks of which only cars 4 and 5 come in in order: tests/header.c works it out.
+fn pair() -> Night<'static> {
+    night(&[6], &[6, 4, 5, 3, 2, 1], 4, 3)
+}
+
+#[test]
+fn the_fewest_passes_of_n() {
+    for steps in 2..=8 {
+        let codes = vec![0, 0, 1, 1, 2, 3];
+        assert_eq!(fewest(n(2, 512), steps), (11, codes));
+    }
+    for steps in 3..=8 {
+        let codes = vec![1, 1, 2, 2, 3, 5];
+        assert_eq!(fewest(closed(n(2, 512)), steps), (14, codes));
+    }
+}
+
+#[test]
+fn fewer_passes_than_the_derived_plan_and_fewer_with_a_step_more() {
+    let derived = derive(pair(), 8).unwrap();
+    assert_eq!((derived.steps, derived.passes), (3, 13));
+    assert_eq!(fewest(pair(), 3), (12, vec![0, 1, 2, 4, 4, 5]));
+    for steps in 4..=8 {
+        assert_eq!(fewest(pair(), steps), (11, vec![0, 1, 2, 4, 4, 8]));
+    }
+    assert_eq!(fewest(closed(pair()), 3), (14, vec![1, 2, 3, 4, 4, 5]));
+}
+
+#[test]
+fn of_as_few_passes_the_list_smallest_at_the_first_differing_car() {
+    let five = reversed(5);
+    let night = night(&[5], &five, 4, 512);
+    // 0 1 2 4 5 has as few.
+    assert_eq!(fewest(night, 3), (10, vec![0, 1, 2, 3, 4]));
+    // 1 2 4 8 9, with 9 for car 6 alone, has as few.
+    assert_eq!(fewest(closed(pair()), 4), (13, vec![1, 2, 3, 4, 4, 8]));
+}
+
+#[test]
+fn no_codes_of_so_few_steps() {
+    for steps in 0..3 {
+        assert_eq!(fewest_passes(pair(), steps), Err(refused(5, 3, 0)));
+    }
+    let inbound = reversed(257);
+    let night = night(&[257], &inbound, 8, 512);
+    assert_eq!(fewest_passes(night, 8), Err(refused(5, 9, 0)));
+}
+
+#[test]
+fn room_for_the_found_codes_alone() {
+    let night = Night { room: 2, ..pair() };
+    assert_eq!(fewest_passes(night, 3), Err(refused(6, 2, 3)));
+    assert_eq!(fewest(night, 4).0, 11);
+    // The derived plan has more passes, and too little room as well, in another step.
+    assert_eq!(derive(night, 8), Err(refused(6, 0, 3)));
 }

@@ -182,6 +182,16 @@ mod raw {
             codes: *mut u16,
             codes_len: usize,
         ) -> Answer;
+        pub fn altairpeg_fewest_passes(
+            lengths: *const u16,
+            lengths_len: usize,
+            inbound: *const u16,
+            inbound_len: usize,
+            mark: usize,
+            counts: Counts,
+            codes: *mut u16,
+            codes_len: usize,
+        ) -> Answer;
         pub fn altairpeg_check(
             lengths: *const u16,
             lengths_len: usize,
@@ -255,6 +265,15 @@ pub fn derive(night: Night, limit: usize, codes: &mut [u16]) -> Answer {
     call!(altairpeg_derive
         reads [night.lengths, night.inbound]
         counts [night.mark.number(), Counts::of(night, limit)]
+        writes [codes])
+}
+
+/// Finds the codes of a night and a given number of steps with the fewest passes.
+#[inline]
+pub fn fewest_passes(night: Night, steps: usize, codes: &mut [u16]) -> Answer {
+    call!(altairpeg_fewest_passes
+        reads [night.lengths, night.inbound]
+        counts [night.mark.number(), Counts::of(night, steps)]
         writes [codes])
 }
 

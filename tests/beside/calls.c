@@ -64,6 +64,12 @@ static struct told replay_closed(struct night *n) {
     return replay_as(n, closed(n));
 }
 
+/* With the most steps there are the most codes to choose from, and each night has codes of eight steps. */
+static struct told fewest_passes(struct night *n) {
+    return told(altairpeg_fewest_passes(n->lengths, n->trains, n->inbound, n->cars, ALTAIRPEG_OPEN,
+                                        counts(n, ALTAIRPEG_STEPS), n->codes_out, n->cars));
+}
+
 static struct told read(struct night *n) {
     altairpeg_card_answer answer = altairpeg_read(n->card, n->card_len, n->lengths_out, n->trains, n->inbound_out,
                                                   n->cars, n->codes_out, n->cars);
@@ -83,4 +89,4 @@ static struct told lists(struct night *n) {
 }
 
 calls_of_a_night *const calls[CALLS] = {
-    derive, check, replay, read, write, lists, derive_closed, check_closed, replay_closed};
+    derive, check, replay, read, write, lists, derive_closed, check_closed, replay_closed, fewest_passes};

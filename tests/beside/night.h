@@ -4,7 +4,7 @@
 #include <stddef.h>
 #include <stdint.h>
 
-enum { CARS = 512, TRAINS = 64, CARD = 1237, CALLS = 9 };
+enum { CARS = 512, TRAINS = 64, CARD = 1237, CALLS = 10 };
 
 struct night {
     size_t cars, trains, tracks, room, steps, stage, card_len;
@@ -26,6 +26,6 @@ struct told {
 typedef struct told calls_of_a_night(struct night *);
 
 /* A call that an edition lacks is NULL, and is not measured. */
-enum { DERIVE, CHECK, REPLAY, READ, WRITE, LISTS, DERIVE_CLOSED, CHECK_CLOSED, REPLAY_CLOSED };
+enum { DERIVE, CHECK, REPLAY, READ, WRITE, LISTS, DERIVE_CLOSED, CHECK_CLOSED, REPLAY_CLOSED, FEWEST_PASSES };
 extern calls_of_a_night *const calls[CALLS];
 #endif

@@ -5,7 +5,7 @@
 #include <string.h>
 
 static const char *const NAMES[CALLS] = {"derive", "check", "replay", "read", "write", "lists",
-                                         "derive-closed", "check-closed", "replay-closed"};
+                                         "derive-closed", "check-closed", "replay-closed", "fewest-passes"};
 static uint64_t state = 88172645463325252u;
 
 /* A number below a bound, the same in each run. */
