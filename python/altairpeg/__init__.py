@@ -16,21 +16,31 @@ Where the destination tracks serve other work until the first pull, the night is
 >>> altairpeg.derive(night._replace(room=4, mark="closed"))
 Derived(steps=3, passes=14, codes=[1, 1, 2, 2, 3, 5])
 
+Where there are steps to spare, fewer cars need to be pushed:
+
+>>> night = altairpeg.Night(lengths=[6], inbound=[6, 4, 5, 3, 2, 1], tracks=4, room=3, mark="open")
+>>> altairpeg.derive(night)
+Derived(steps=3, passes=13, codes=[0, 1, 2, 3, 3, 4])
+>>> altairpeg.fewest_passes(night, steps=3)
+Derived(steps=3, passes=12, codes=[0, 1, 2, 4, 4, 5])
+>>> altairpeg.fewest_passes(night, steps=4)
+Derived(steps=4, passes=11, codes=[0, 1, 2, 4, 4, 8])
+
 Every error is an `AltairpegError`: a `Refusal`; an `InputError`, which is a `ValueError`, where something is no number, list,
 mark or card at all; a `FileError`, which is an `OSError`; a `LibraryError` where the library can't be loaded.
 
 `python3 -m altairpeg --help`, or `altairpeg --help` where it is installed, tells of the command line.
 """
 
-from .calls import check, derive, fewest_tracks, price, read_card, read_card_file, replay, write_card
+from .calls import check, derive, fewest_passes, fewest_tracks, price, read_card, read_card_file, replay, write_card
 from .errors import AltairpegError, FileError, InputError, LibraryError
 from .nights import Checked, Derived, Mark, Night, Numbers, Plan, Stage
 from .refusal import Refusal
 
-__version__ = "2.0.0"
+__version__ = "2.1.0"
 
 __all__ = [
     "Night", "Mark", "Plan", "Derived", "Checked", "Stage", "Numbers",
     "AltairpegError", "Refusal", "InputError", "FileError", "LibraryError",
-    "derive", "check", "replay", "read_card", "read_card_file", "write_card", "price", "fewest_tracks",
+    "derive", "fewest_passes", "check", "replay", "read_card", "read_card_file", "write_card", "price", "fewest_tracks",
 ]

@@ -22,16 +22,17 @@ def derive(night: Night, limit: SupportsIndex = 8) -> Derived:
     Refuses 1, 2, 3, 5 or 6. 5 says that no plan that builds the trains keeps to the limit, with the
     destinations closed until the first pull where the night is closed; 6 speaks of the derived plan alone.
     """
-    lengths, inbound, tracks, room, mark = _night(night)
-    cars = len(inbound)
-    codes = lists.zeros(cars)
-    counts = Counts(tracks, room, lists.count("limit", limit))
-    answer = library().altairpeg_derive(lengths, len(lengths), inbound, cars, mark, counts, codes, cars)
-    if answer.number:
-        raise _refusal(answer, limit=limit, **night._asdict())
-    derived = Derived(answer.a, answer.b, codes.tolist())
-    derived.night = night
-    return derived
+    return _derived("altairpeg_derive", night, "limit", limit)
+
+
+def fewest_passes(night: Night, steps: SupportsIndex) -> Derived:
+    """Finds the plan of a night with the fewest hump passes for just so many steps, as `Derived`.
+
+    Of the plans with as few passes it is the one whose codes are smallest at the first differing car. Refuses 1, 2, 3, 5
+    or 6. 5 says that no codes of these steps build the trains, with the destinations closed until the first pull where
+    the night is closed, and `a` is the fewest steps of which some do; 6 speaks of the found codes alone.
+    """
+    return _derived("altairpeg_fewest_passes", night, "steps", steps)
 
 
 def check(plan: Plan) -> Checked:
@@ -128,6 +129,20 @@ def fewest_tracks(code: SupportsIndex) -> int:
     if not 0 <= number <= 255:
         raise InputError(f"code is {shown(number)}, not 0 to 255")
     return int(library().altairpeg_fewest_tracks(number))
+
+
+def _derived(call: str, night: Night, name: str, steps: SupportsIndex) -> Derived:
+    """What a call answers that finds codes for a night; the name is what it takes the steps for, the limit or all of them."""
+    lengths, inbound, tracks, room, mark = _night(night)
+    cars = len(inbound)
+    codes = lists.zeros(cars)
+    counts = Counts(tracks, room, lists.count(name, steps))
+    answer = getattr(library(), call)(lengths, len(lengths), inbound, cars, mark, counts, codes, cars)
+    if answer.number:
+        raise _refusal(answer, **{name: steps}, **night._asdict())
+    derived = Derived(answer.a, answer.b, codes.tolist())
+    derived.night = night
+    return derived
 
 
 def _night(night: Night) -> tuple[array[int], array[int], int, int, int]:

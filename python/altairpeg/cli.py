@@ -10,16 +10,16 @@ import argparse
 import os
 import sys
 import traceback
-from decimal import Decimal, InvalidOperation
 from typing import Any, Sequence
 
-from . import __version__, batch, make, show
+from . import __version__, batch, make, show, tradeoff
 from .calls import check, derive, needs_open, price
 from .errors import AltairpegError, InputError
 from .files import CARD_HELP, JSON_HELP, headline, is_json, kept, read_night, read_plan
 from .nights import Plan
 from .output import write_whole
 from .refusal import Refusal
+from .timings import add_timings
 
 DONE, REFUSED, WRONG = 0, 1, 2
 INTERRUPTED = 130
@@ -89,6 +89,7 @@ def _parser() -> argparse.ArgumentParser:
     _register_derive(commands)
     _register_check(commands)
     _register_price(commands)
+    tradeoff.register(commands)
     show.register(commands)
     batch.register(commands)
     return parser
@@ -142,8 +143,7 @@ def _register_price(commands: Any) -> None:
     parser.add_argument("card", metavar="CARD", nargs="?", help=CARD_HELP)
     parser.add_argument("--steps", type=int, metavar="H", help="in place of a card: its steps")
     parser.add_argument("--passes", type=int, metavar="P", help="in place of a card: its hump passes")
-    parser.add_argument("--pull", type=_seconds, required=True, metavar="S", help="seconds for a pull-out, 0 to 4096 in sixteenths")
-    parser.add_argument("--push", type=_seconds, required=True, metavar="S", help="seconds to push one car, 0 to 4096 in sixteenths")
+    add_timings(parser)
     parser.set_defaults(run=_price)
 
 
@@ -160,14 +160,6 @@ def _price(given: argparse.Namespace) -> int:
 def _cost(plan: Plan) -> tuple[int, int]:
     """The steps of a plan that check accepts, and its passes."""
     return plan.steps, check(plan).passes
-
-
-def _seconds(text: str) -> Decimal:
-    """Seconds to the last digit: a double might round a timing that isn't allowed to one that is."""
-    try:
-        return Decimal(text)
-    except InvalidOperation:
-        raise argparse.ArgumentTypeError(f"{text!r} is not a number of seconds") from None
 
 
 if __name__ == "__main__":

@@ -127,7 +127,11 @@ def _json(plan: Plan) -> bytes:
 
 
 def headline(plan: Plan) -> str:
-    """Steps, tracks, room, cars and trains, as nightcard prints them; a closed night, of which it gets no card, says so."""
-    night = plan.night
+    """Steps, tracks, room, cars and trains, as nightcard prints them."""
+    return f"steps {plan.steps} {night_line(plan.night)}"
+
+
+def night_line(night: Night) -> str:
+    """The headline of a night alone; a closed one, of which nightcard gets no card, says so."""
     closed = " mark closed" if night.mark == Mark.CLOSED else ""
-    return f"steps {plan.steps} tracks {night.tracks} room {night.room} cars {len(night.inbound)} trains {len(night.lengths)}{closed}"
+    return f"tracks {night.tracks} room {night.room} cars {len(night.inbound)} trains {len(night.lengths)}{closed}"

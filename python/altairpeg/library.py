@@ -11,7 +11,6 @@ from typing import Any
 
 from . import building
 from .errors import LibraryError
-from .words import NAMES
 
 CARS = 512
 TRAINS = 64
@@ -28,7 +27,7 @@ class Answer(ctypes.Structure):
 
 
 class Counts(ctypes.Structure):
-    """The counts that no list sets; steps is the step limit for derive."""
+    """The counts that no list sets; steps is the step limit for derive, and for every other call the steps themselves."""
 
     _fields_ = [("tracks", c_size_t), ("room", c_size_t), ("steps", c_size_t)]
 
@@ -66,6 +65,7 @@ PLAN = NIGHT + LIST + MARKED
 
 CALLS: dict[str, tuple[list[Any], Any]] = {
     "altairpeg_derive": (NIGHT + MARKED + LIST, Answer),
+    "altairpeg_fewest_passes": (NIGHT + MARKED + LIST, Answer),
     "altairpeg_check": (PLAN, Answer),
     "altairpeg_replay": (PLAN + [c_size_t] + LIST + LIST, Answer),
     "altairpeg_read": (LIST * 4, CardAnswer),
@@ -73,34 +73,35 @@ CALLS: dict[str, tuple[list[Any], Any]] = {
     "altairpeg_price": ([c_size_t, c_size_t, Timings], PriceAnswer),
     "altairpeg_fewest_tracks": ([c_uint8], c_size_t),
 }
+# The call that came last, with 2.1.0: its name tells a library of this version from every earlier one.
+NEWEST = "altairpeg_fewest_passes"
 
 
 def opened(path: Path, told: Path) -> ctypes.CDLL:
     """The library in a shared object, with the type of each call; an error tells of the file it was made of."""
     try:
         library = ctypes.CDLL(str(path))
-        for name, (taken, given) in CALLS.items():
-            call = getattr(library, name)
-            call.argtypes = taken
-            call.restype = given
     except OSError as trouble:
         raise LibraryError(f"{told} gives a shared object that can't be loaded: {trouble}") from None
-    except AttributeError:
-        raise LibraryError(f"{told} is broken or not of Altairpeg's library: it has no {name}") from None
-    if not _takes_marks(library):
-        raise LibraryError(f"{told} is of an Altairpeg before 2.0.0, whose calls take no mark: run `rt staticlib altairpeg` anew")
+    _has_every_call(library, told)
+    for name, (taken, given) in CALLS.items():
+        call = getattr(library, name)
+        call.argtypes = taken
+        call.restype = given
     return library
 
 
-def _takes_marks(library: ctypes.CDLL) -> bool:
-    """Whether check refuses a closed night's code 0.
+def _has_every_call(library: ctypes.CDLL, told: Path) -> None:
+    """Tells of a library that is too old, or none of Altairpeg's, before any of it is called.
 
-    A library without marks has calls of the same names; it takes one count for another and answers for another night, or
-    writes where it should not. What it is asked here, it accepts.
+    The calls of version 1 have the names of today's and take no mark: they would answer for another night, or write where
+    they should not.
     """
-    one, zero = array("H", [1]), array("H", [0])
-    answer = library.altairpeg_check(one, 1, one, 1, zero, 1, CLOSED, Counts(tracks=1, room=1, steps=0))
-    return NAMES.get(answer.number) == "ZERO_CODE"
+    missing = [name for name in CALLS if not hasattr(library, name)]
+    if missing == [NEWEST]:
+        raise LibraryError(f"{told} is of an Altairpeg before 2.1.0, which has no {NEWEST}: run `rt staticlib altairpeg` anew")
+    if missing:
+        raise LibraryError(f"{told} is broken or not of Altairpeg's library: it has no {missing[0]}")
 
 
 def _of_archive(source: Path) -> ctypes.CDLL:

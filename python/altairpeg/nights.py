@@ -66,9 +66,9 @@ class Derived(_Derived):
 
     @property
     def plan(self) -> Plan:
-        """The derived plan, of the night that `derive` was given."""
+        """The derived plan, of the night that `derive` or `fewest_passes` was given."""
         if self.night is None:
-            raise InputError("this Derived does not come from derive, so it has no night")
+            raise InputError("this Derived does not come from derive or fewest_passes, so it has no night")
         return Plan(self.night, self.steps, self.codes)
 
 

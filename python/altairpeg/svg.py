@@ -1,23 +1,15 @@
-"""A night drawn as a picture, stage by stage: tracks as rows, cars as boxes in the colour of their train.
-
-The picture is plain SVG of edition 1.1 with no reference to anything outside it.
-"""
+"""A night drawn as a picture, stage by stage: tracks as rows, cars as boxes in the colour of their train."""
 
 from __future__ import annotations
 
-import textwrap
 from typing import Collection, NamedTuple, Sequence
-from xml.sax.saxutils import escape
 
 from .colours import INK, PALE, PULLED, WRONG, band, fill, number_colour
 from .files import headline
+from .page import LABEL, MARGIN, Page, counted, night_in_words
 from .story import BARRED, FEW_TRAINS, Story, barrier, disorder, signed, trouble
 
-MARGIN = 20
-LABEL = 96
 BAND = 4
-# The width of a letter, as a part of the size of its font.
-LETTER = 0.58
 # The least height of a row: its label has two lines.
 LOWEST = 30
 # The free space below the boxes of a line: with names of tracks there, and without.
@@ -42,46 +34,15 @@ def _scale(cars: int) -> Scale:
     return Scale(46, 26, 14, min(20, max(cars, 10)), True) if cars <= FEW_CARS else Scale(32, 20, 12, 34, False)
 
 
-class Sheet:
-    """A picture that grows downward: what was drawn, and how far down the next part begins."""
+class Sheet(Page):
+    """The picture of a story."""
 
     def __init__(self, story: Story) -> None:
         self.story = story
         self.scale = _scale(len(story.plan.night.inbound))
-        self.drawn: list[str] = []
-        self.y = MARGIN
-        self.width = 2 * MARGIN + LABEL + self.scale.line * self.scale.width
+        super().__init__(2 * MARGIN + LABEL + self.scale.line * self.scale.width)
         lengths = story.plan.night.lengths
         self.train_of: dict[int, int] = dict(enumerate((train for train, length in enumerate(lengths, 1) for _ in range(length)), 1))
-
-    def rect(self, x: int, y: int, width: int, height: int, look: str) -> None:
-        """A rectangle."""
-        self.drawn.append(f'<rect x="{x}" y="{y}" width="{width}" height="{height}" {look}/>')
-
-    def text(self, x: int, y: int, words: str, look: str = "") -> None:
-        """A line of text; y is its foot."""
-        self.drawn.append(f'<text x="{x}" y="{y}"{look and " " + look}>{escape(words)}</text>')
-
-    def wrapped(self, words: str, size: int, x: int) -> list[str]:
-        """A text that begins at x, in as many lines as it needs; no common font is wider than this takes it to be."""
-        return textwrap.wrap(words, int((self.width - MARGIN - x) / (size * LETTER)))
-
-    def paragraph(self, words: str, size: int, look: str = "", x: int = MARGIN) -> None:
-        """Text below what was drawn, in as many lines as it needs."""
-        for line in self.wrapped(words, size, x):
-            self.y += size + 6
-            self.text(x, self.y, line, f'font-size="{size}"{look and " " + look}')
-
-    def warning(self, words: str, x: int = MARGIN) -> None:
-        """What is wrong."""
-        self.paragraph(words, 13, f'fill="{WRONG}" font-weight="bold"', x)
-
-    def heading(self, words: str) -> None:
-        """The heading of a part, set off from the part above it."""
-        self.y += 20
-        self.drawn.append(f'<path d="M{MARGIN} {self.y}H{self.width - MARGIN}" stroke="#999"/>')
-        self.paragraph(words, 15, 'font-weight="bold"')
-        self.y += 12
 
     def box(self, x: int, y: int, train: int, words: str, frame: str = "") -> None:
         """A car."""
@@ -147,8 +108,8 @@ def _label(sheet: Sheet, x: int, name: str, count: str) -> None:
 def _inbound(sheet: Sheet) -> None:
     """The first roll-in: the cars as they come, where each cut rolls, and what is wrong with that."""
     cars, x = sheet.story.plan.night.inbound, MARGIN + LABEL
-    sheet.heading(f"First roll-in, {_counted(len(cars), 'car')} over the hump")
-    _label(sheet, MARGIN, "inbound", _counted(len(cars), "car"))
+    sheet.heading(f"First roll-in, {counted(len(cars), 'car')} over the hump")
+    _label(sheet, MARGIN, "inbound", counted(len(cars), "car"))
     _cars(sheet, x, cars, NAMED, wrong=sheet.story.stopped())
     _targets(sheet, x, 0, NAMED)
     sheet.y += _depth(sheet, len(cars), NAMED)
@@ -236,7 +197,7 @@ def _stage(sheet: Sheet, stage: int) -> None:
             _pulled_track(sheet, stage, moved)
         else:
             _sorting_track(sheet, stage, track, moved)
-    sheet.drawn.append(f'<path d="M{MARGIN} {sheet.y}H{sheet.width - MARGIN}" stroke="#999" stroke-dasharray="2 4"/>')
+    sheet.line(MARGIN, 'stroke="#999" stroke-dasharray="2 4"')
     sheet.y += 6
     _trains(sheet, stage, moved)
 
@@ -271,17 +232,6 @@ def _legend(sheet: Sheet) -> None:
     sheet.paragraph(" ".join(filter(None, signs)), 12, 'fill="#555"')
 
 
-def _counted(number: int, name: str) -> str:
-    """So many of something."""
-    return f"{number} {name}" if number == 1 else f"{number} {name}s"
-
-
-def _title(story: Story) -> str:
-    """The picture's title."""
-    night = story.plan.night
-    return f"A night of {_counted(len(night.inbound), 'car')} and {_counted(len(night.lengths), 'train')}, stage by stage"
-
-
 def _verdict(sheet: Sheet) -> None:
     """What check says of the plan."""
     story = sheet.story
@@ -296,18 +246,10 @@ def _verdict(sheet: Sheet) -> None:
 def picture(story: Story) -> str:
     """The picture of a story, as the text of an SVG file."""
     sheet = Sheet(story)
-    sheet.paragraph(_title(story), 20, 'font-weight="bold"')
-    sheet.paragraph(headline(story.plan), 13)
+    sheet.begin(f"{night_in_words(story.plan.night)}, stage by stage", headline(story.plan))
     _legend(sheet)
     _inbound(sheet)
     for stage in range(len(story.yards)):
         _stage(sheet, stage)
     _verdict(sheet)
-    height = sheet.y + MARGIN
-    head = [
-        f'<svg xmlns="http://www.w3.org/2000/svg" width="{sheet.width}" height="{height}" viewBox="0 0 {sheet.width} {height}" '
-        f'font-family="sans-serif" fill="{INK}" role="img">',
-        f"<title>{escape(_title(story))}</title>",
-        f'<rect width="{sheet.width}" height="{height}" fill="#fff"/>',
-    ]
-    return "\n".join([*head, *sheet.drawn, "</svg>"]) + "\n"
+    return sheet.svg()

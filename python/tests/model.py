@@ -41,9 +41,9 @@ def code_tests(night, steps, codes):
         yield code != 0 or night.mark == "open", (14, car, 0)
 
 
-def derive(night, limit):
-    """What derive tests before it looks at the order of the cars."""
-    return first(counts(night, limit, 0)) or first(night_tests(night))
+def derive(night, steps):
+    """What derive, with its limit, and fewest_passes, with its steps, test before they look at the order of the cars."""
+    return first(counts(night, steps, 0)) or first(night_tests(night))
 
 
 def plan(night, steps, codes, stage=0):

@@ -27,6 +27,11 @@ def n(tracks=2, room=512, mark=OPEN):
     return Night([6], INBOUND, tracks, room, mark)
 
 
+def blocks(room=3, mark=OPEN):
+    """One train of five blocks without a break, 1 | 2 | 3 | 4 5 | 6, on four tracks: with a step to spare it has fewer passes."""
+    return Night([6], [6, 4, 5, 3, 2, 1], 4, room, mark)
+
+
 def one_car(mark):
     """A night of one car."""
     return Night([1], [1], 2, 512, mark)

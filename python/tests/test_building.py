@@ -18,9 +18,6 @@ try:
 except altairpeg.AltairpegError as trouble:
     print(type(trouble).__name__, trouble, sep=": ")
 """
-# A library of another make, which gives 42 fewest tracks for every code and checks with always the same answer.
-OTHER = "".join(f"unsigned long {name}(void) {{ return 42; }}\n" for name in CALLS if name != "altairpeg_check")
-CHECK = "struct answer {{ unsigned long number, a, b; }} altairpeg_check(void) {{ return (struct answer) {{ {}, 1, 0 }}; }}\n"
 
 
 class Building(Scratch):
@@ -48,9 +45,10 @@ class Building(Scratch):
         """The shared objects in the cache."""
         return sorted(self.cache.glob("altairpeg/*"))
 
-    def other(self, checks=14):
-        """Puts a library of another make into the archive's place, much older than the first."""
-        source, object_file = self.file("other.c", (OTHER + CHECK.format(checks)).encode()), self.folder / "other.o"
+    def other(self, *lacks):
+        """Puts a library of another make into the archive's place, much older than the first: of every code it says 42."""
+        calls = "".join(f"unsigned long {name}(void) {{ return 42; }}\n" for name in CALLS if name not in lacks)
+        source, object_file = self.file("other.c", calls.encode()), self.folder / "other.o"
         subprocess.run(["gcc", "-c", "-fPIC", source, "-o", object_file], check=True)
         self.archive.unlink()
         subprocess.run(["ar", "rc", self.archive, object_file], check=True)
@@ -69,9 +67,15 @@ class Building(Scratch):
         self.ran(self.ask(), 0, "42\n")
         self.assertEqual(len(self.made()), 2)
 
-    def test_a_library_that_takes_no_marks(self):
-        self.other(checks=0)
-        self.tells(r".*an archive\.a is of an Altairpeg before 2\.0\.0, whose calls take no mark: .*")
+    def test_an_earlier_library(self):
+        self.other("altairpeg_fewest_passes")
+        self.tells(r".*an archive\.a is of an Altairpeg before 2\.1\.0, which has no altairpeg_fewest_passes: run `rt .*` anew")
+
+    def test_a_library_that_lacks_more(self):
+        self.other("altairpeg_fewest_passes", "altairpeg_price")
+        self.tells(r".*an archive\.a is broken or not of Altairpeg's library: it has no altairpeg_fewest_passes")
+        self.other("altairpeg_price")
+        self.tells(r".*an archive\.a is broken or not of Altairpeg's library: it has no altairpeg_price")
 
     def test_a_spoilt_shared_object_is_made_anew(self):
         self.ran(self.ask(), 0, "3\n")

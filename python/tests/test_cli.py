@@ -19,7 +19,8 @@ CLOSED_PLAN = Plan(CLOSED_NIGHT, 3, CLOSED_CODES)
 NO_CARD = "altairpeg: a closed night goes on no card yet: a card of edition 1 means an open one\n"
 NO_MARK = "altairpeg: mark is missing: a night must say whether it is open or closed\n"
 TIMINGS = ("--pull", "1.5", "--push", "0.25")
-# The commands that take a plan.
+# The commands that take a night, and those that take a plan.
+OF_NIGHTS = (("derive",), ("tradeoff", *TIMINGS))
 OF_PLANS = (("check",), ("show",), ("price", *TIMINGS))
 SHORT_LINE = "refused 10 16 0: card too short (16 bytes needed, as far as known)\n"
 
@@ -119,7 +120,7 @@ class OneCard(Scratch):
 
     def test_refused_cards(self):
         short = self.file("short.card", SHORT)
-        for command in (["check"], ["derive"], ["price", "--pull", "1", "--push", "1"]):
+        for command in (["check"], ["derive"], ["price", *TIMINGS], ["tradeoff", *TIMINGS]):
             self.ran(altairpeg(*command, short), 1, "", SHORT_LINE)
             self.ran(altairpeg(*command, "-", input=SHORT), 1, "", SHORT_LINE)
 
@@ -207,14 +208,14 @@ class JsonFiles(Scratch):
     def test_the_mark_must_be_said(self):
         named = {"lengths": [6], "inbound": INBOUND, "tracks": 2, "room": 3, "steps": 2, "codes": CODES}
         unmarked = self.file("unmarked.json", json.dumps(named).encode())
-        for command in (("derive",), ("card",), *OF_PLANS):
+        for command in (*OF_NIGHTS, ("card",), *OF_PLANS):
             self.ran(altairpeg(*command, unmarked), 2, "", NO_MARK)
             for mark in (True, 1, None, "shut"):
                 said = f"altairpeg: mark is {mark!r}, not 'open' or 'closed'\n"
                 self.ran(altairpeg(*command, self.named(mark=mark, steps=3, codes=CLOSED_CODES)), 2, "", said)
 
     def test_what_is_no_json(self):
-        for command in (("derive",), *OF_PLANS):
+        for command in (*OF_NIGHTS, *OF_PLANS):
             run = altairpeg(*command, self.file("card.json", CARD))
             self.assertEqual((run.stdout, run.returncode), (b"", 2))
             self.assertIn(b"card.json is not JSON: ", run.stderr)
@@ -245,7 +246,7 @@ class Ends(Scratch):
 
     def test_help_and_version(self):
         self.ran(altairpeg("--version"), 0, f"altairpeg {package.__version__}\n")
-        for command in ("card", "derive", "check", "price", "show", "batch"):
+        for command in ("card", "derive", "check", "price", "tradeoff", "show", "batch"):
             self.assertIn(command.encode(), altairpeg("--help").stdout)
             self.assertEqual(altairpeg(command, "--help").returncode, 0)
 

@@ -15,7 +15,7 @@ from unittest import mock
 
 import altairpeg
 from altairpeg import AltairpegError, Derived, FileError, InputError, LibraryError, Mark, Night, Plan, Refusal
-from altairpeg import check, derive, fewest_tracks, price, read_card, read_card_file, replay, write_card
+from altairpeg import check, derive, fewest_passes, fewest_tracks, price, read_card, read_card_file, replay, write_card
 from altairpeg.library import CardAnswer
 from support import CARD, CLOSED, CLOSED_CODES, CODES, INBOUND, OPEN, SHORT, Scratch, n, skipped
 
@@ -81,8 +81,9 @@ NOT_WHOLE = [None, 3.0, math.nan, "3", b"3", [3], Decimal(3), Fraction(3), 3j, U
 class Lists(Scratch):
     def test_every_form(self):
         for form, inbound in FORMS.items():
+            night = Night([6], inbound, 2, 3, OPEN)
             with self.subTest(form):
-                self.assertEqual(derive(Night([6], inbound, 2, 3, OPEN)), DERIVED)
+                self.assertEqual((derive(night), fewest_passes(night, 2)), (DERIVED, DERIVED))
 
     def test_codes_and_lengths_in_every_form(self):
         for codes in (tuple(CODES), bytes(CODES), array("H", CODES), spread(CODES), memoryview(array("l", CODES))):
@@ -123,6 +124,7 @@ class Lists(Scratch):
         self.assertEqual(self.refused(7, 6, 0, check, Plan(n(), 2, [0, 0, 1, 1, 2, 4])).place, "codes[5] is 4")
         self.assertEqual(self.refused(4, 3, 0, check, Plan(n(), 2, [0])).place, "len(codes) is 1")
         self.assertEqual(self.refused(1, 5, 0, derive, n(), -1).place, "limit is -1")
+        self.assertEqual(self.refused(1, 5, 0, fewest_passes, n(), 9).place, "steps is 9")
         self.assertEqual(self.refused(1, 6, 0, replay, Plan(n(), 2, CODES), 2**64).place, "stage is 18446744073709551616")
         self.assertEqual(self.refused(13, 1, 0, price, 2, 11, 0.1, 0.25).place, "pull is 0.1")
         self.assertIsNone(self.refused(6, 0, 3, derive, n(room=2)).place)
@@ -159,6 +161,11 @@ class Counts(Scratch):
                 with self.subTest(type(given).__name__, count=name), self.assertRaisesRegex(InputError, message):
                     call()
 
+    def test_steps_have_no_default(self):
+        self.assertRaises(TypeError, fewest_passes, n())
+        for given in NOT_WHOLE:
+            self.assertRaisesRegex(InputError, "^steps is .*, not a whole number$", fewest_passes, n(), given)
+
     def test_a_code_is_a_byte(self):
         for code in (-1, 256, 2**64):
             self.assertRaisesRegex(InputError, "^code is -?[0-9]+, not 0 to 255$", fewest_tracks, code)
@@ -173,6 +180,7 @@ class Counts(Scratch):
     def test_no_night_and_no_plan(self):
         for given in (None, [6], ([6], INBOUND, 2, 3)):
             self.assertRaisesRegex(InputError, "^night is .*, not a Night$", derive, given)
+            self.assertRaisesRegex(InputError, "^night is .*, not a Night$", fewest_passes, given, 2)
             self.assertRaisesRegex(InputError, "^night is .*, not a Night$", check, Plan(given, 2, CODES))
             for call in (check, write_card, lambda plan: replay(plan, 0)):
                 self.assertRaisesRegex(InputError, "^plan is .*, not a Plan$", call, given)
@@ -196,6 +204,7 @@ class Marks(Scratch):
             plan = Plan(n(mark=given), 2, CODES)
             with self.subTest(type(given).__name__):
                 self.assertRaisesRegex(InputError, message, derive, plan.night)
+                self.assertRaisesRegex(InputError, message, fewest_passes, plan.night, 2)
                 self.assertRaisesRegex(InputError, message, replay, plan, 0)
                 for call in (check, write_card):
                     self.assertRaisesRegex(InputError, message, call, plan)
@@ -248,10 +257,10 @@ class Cards(Scratch):
 
 class Answers(Scratch):
     def test_derived_gives_its_plan(self):
-        derived = derive(n())
-        self.assertEqual(derived.plan, Plan(n(), 2, CODES))
-        self.assertEqual(check(derived.plan).passes, derived.passes)
-        self.assertEqual(pickle.loads(pickle.dumps(derived)).plan, derived.plan)
+        for derived in (derive(n()), fewest_passes(n(), 2)):
+            self.assertEqual(derived.plan, Plan(n(), 2, CODES))
+            self.assertEqual(check(derived.plan).passes, derived.passes)
+            self.assertEqual(pickle.loads(pickle.dumps(derived)).plan, derived.plan)
         steps, passes, codes = derived
         self.assertRaises(InputError, lambda: Derived(steps, passes, codes).plan)
 

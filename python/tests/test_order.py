@@ -8,7 +8,7 @@ from collections import Counter
 from fractions import Fraction
 
 import model
-from altairpeg import InputError, Night, Plan, Refusal, check, derive, lists, price, replay, write_card
+from altairpeg import InputError, Night, Plan, Refusal, check, derive, fewest_passes, lists, price, replay, write_card
 from altairpeg.library import STEPS
 from support import CLOSED, OPEN, told
 
@@ -84,8 +84,9 @@ class Order(unittest.TestCase):
     def test_derive(self):
         drawn = Drawn(1)
         for _ in range(8000):
-            night, limit = drawn.night(), drawn.spoilt(drawn.random.randint(0, 8))
-            self.agrees(model.derive(night, limit), derive, night, limit)
+            night, steps = drawn.night(), drawn.spoilt(drawn.random.randint(0, 8))
+            for call in (derive, fewest_passes):
+                self.agrees(model.derive(night, steps), call, night, steps)
         self.all_reached((1, 1), (1, 2), (1, 3), (1, 4), (1, 5), (2, False), (2, True), (3, True))
 
     def test_plans(self):

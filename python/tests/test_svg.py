@@ -1,6 +1,5 @@
 """The picture: well-formed, complete, and readable by its numbers; the README's is current."""
 
-import re
 import unittest
 from pathlib import Path
 from xml.etree import ElementTree
@@ -8,23 +7,17 @@ from xml.etree import ElementTree
 from altairpeg import Night, Plan, read_card
 from altairpeg.colours import COLOURS, band, contrast, fill, number_colour
 from altairpeg.story import tell
-from altairpeg.svg import LETTER, picture
+from altairpeg.svg import picture
 
-from drawings import BARRED, EARLY, NINE, OUT_OF_ORDER, OVERFILLED, SHUT, many, show, zeroed
+from drawings import BARRED, EARLY, NINE, OUT_OF_ORDER, OVERFILLED, SHUT, Drawing, many, show, words, zeroed
 from support import CARD, CLOSED, OPEN, PYTHON, Scratch
 
 ALL_EARLY = Plan(Night([12], list(range(1, 13)), 1, 12, OPEN), 2, [2] * 12)
 KEPT = PYTHON.parent / "docs" / "first-card.svg"
-NAME = "{http://www.w3.org/2000/svg}"
 TRAINS = range(1, 65)
 
 
-def words(drawn):
-    """Every text of a picture, in order."""
-    return [text.text or "" for text in ElementTree.fromstring(drawn).iter(f"{NAME}text")]
-
-
-class Picture(unittest.TestCase):
+class Picture(Drawing):
     def test_kept_picture_is_current(self):
         self.assertEqual(KEPT.read_text(), picture(tell(read_card(CARD))), "make it anew: python3 -m altairpeg show --svg ../docs/first-card.svg CARD, in python/")
 
@@ -81,21 +74,11 @@ class Picture(unittest.TestCase):
         plans = (Plan(Night([1], [1], 1, 1, OPEN), 0, [0]), many(4, 15), many(64, 8), many(1, 512, 8), OVERFILLED, ALL_EARLY)
         closed = (SHUT, BARRED, many(4, 15, mark=CLOSED), many(5, 1, mark=CLOSED), many(1, 512, 8, CLOSED), zeroed(many(64, 8, mark=CLOSED)))
         for plan in (*plans, *closed):
-            root = ElementTree.fromstring(picture(tell(plan)))
-            width, height = int(root.get("width")), int(root.get("height"))
-            for box in root.iter(f"{NAME}rect"):
-                right, foot = int(box.get("x", 0)) + int(box.get("width")), int(box.get("y", 0)) + int(box.get("height"))
-                self.assertTrue(right <= width and foot <= height, box.attrib)
-            for text in root.iter(f"{NAME}text"):
-                if text.get("text-anchor") is None:
-                    right = int(text.get("x")) + len(text.text) * int(text.get("font-size")) * LETTER
-                    self.assertTrue(right <= width and int(text.get("y")) <= height, text.text)
+            self.stays_inside(picture(tell(plan)))
 
     def test_nothing_from_outside(self):
         for plan in (many(64, 8), SHUT):
-            drawn = picture(tell(plan))
-            self.assertNotRegex(drawn, r"href|url\(|<script|<style|@import")
-            self.assertEqual(re.findall(r"https?://[^\"]*", drawn), ["http://www.w3.org/2000/svg"])
+            self.stands_alone(picture(tell(plan)))
 
 
 class Colours(unittest.TestCase):

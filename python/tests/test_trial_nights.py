@@ -1,14 +1,15 @@
-"""The trial nights of document 01, each under its number, the same nights closed, and the module's own promises."""
+"""The trial nights of document 01, each under its number, the same nights closed, the fewest passes, and the module's own promises."""
 
 import doctest
+import itertools
 import math
 import pickle
 import random
 import unittest
 
 import altairpeg
-from altairpeg import Checked, Derived, Night, Plan, Refusal, check, derive, fewest_tracks, price, read_card, replay, write_card
-from support import CARD, CLOSED, CLOSED_CODES, CODES, INBOUND, OPEN, Scratch, n, one_car, turned
+from altairpeg import Checked, Derived, Night, Plan, Refusal, check, derive, fewest_passes, fewest_tracks, price, read_card, replay, write_card
+from support import CARD, CLOSED, CLOSED_CODES, CODES, INBOUND, OPEN, Scratch, blocks, n, one_car, turned
 
 
 class TrialNights(Scratch):
@@ -92,7 +93,7 @@ class TrialNights(Scratch):
         self.assertEqual(str(pickle.loads(pickle.dumps(refusal))), str(refusal))
 
     def test_examples_of_the_module(self):
-        self.assertEqual(doctest.testmod(altairpeg), (0, 5))
+        self.assertEqual(doctest.testmod(altairpeg), (0, 9))
 
 
 def breaks(night):
@@ -167,6 +168,71 @@ class ClosedNights(Scratch):
                 self.assertEqual(derived.codes, [usable[count + skipped] for count in breaks(night)])
                 self.assertEqual(derived.steps, max(derived.codes).bit_length())
                 self.assertEqual(check(derived.plan).passes, derived.passes)
+
+
+def builds(plan):
+    """Whether check accepts a plan."""
+    try:
+        return bool(check(plan))
+    except Refusal:
+        return False
+
+
+def fewest_of_all(night, steps):
+    """The codes with the fewest set bits of all that check accepts, the first in the order of lists, or None where there are none."""
+    every = itertools.product(range(2**steps), repeat=len(night.inbound))
+    good = (codes for codes in every if builds(Plan(night, steps, codes)))
+    return min(good, key=lambda codes: sum(map(int.bit_count, codes)), default=None)
+
+
+class FewestPasses(Scratch):
+    """tests/header.c works the two nights out by hand."""
+
+    def test_night_n(self):
+        for steps in range(2, 9):
+            self.assertEqual(fewest_passes(n(), steps), Derived(steps, 11, CODES))
+        for steps in range(3, 9):
+            self.assertEqual(fewest_passes(n(mark=CLOSED), steps), Derived(steps, 14, CLOSED_CODES))
+
+    def test_blocks_of_different_weight(self):
+        self.assertEqual(derive(blocks()).passes, 13)
+        self.assertEqual(fewest_passes(blocks(), 3), Derived(3, 12, [0, 1, 2, 4, 4, 5]))
+        for steps in range(4, 9):
+            self.assertEqual(fewest_passes(blocks(), steps), Derived(steps, 11, [0, 1, 2, 4, 4, 8]))
+        self.assertEqual(fewest_passes(blocks(mark=CLOSED), 3), Derived(3, 14, [1, 2, 3, 4, 4, 5]))
+
+    def test_of_equals_the_smallest_list(self):
+        self.assertEqual(fewest_passes(turned(5, 4), 3).codes, [0, 1, 2, 3, 4], "0 1 2 4 5 has as few passes")
+        self.assertEqual(fewest_passes(blocks(mark=CLOSED), 4), Derived(4, 13, [1, 2, 3, 4, 4, 8]), "1 2 4 8 8 9 has as few passes")
+
+    def test_no_codes(self):
+        for steps in range(3):
+            self.refused(5, 3, 0, fewest_passes, blocks(), steps)
+        self.refused(5, 1, 0, fewest_passes, one_car(CLOSED), 0)
+        self.refused(5, 9, 0, fewest_passes, turned(257, 8), 8)
+
+    def test_room(self):
+        self.refused(6, 2, 3, fewest_passes, blocks(room=2), 3)
+        self.assertEqual(fewest_passes(blocks(room=2), 4).passes, 11)
+
+    def test_no_steps(self):
+        self.assertEqual(fewest_passes(one_car(OPEN), 0), Derived(0, 1, [0]))
+        self.assertEqual(fewest_passes(one_car(CLOSED), 8), Derived(8, 2, [1]))
+
+    def test_beside_all_lists_of_codes(self):
+        chance, found = random.Random(104), 0
+        for _ in range(60):
+            cars, steps, tracks = chance.randint(1, 4), chance.randint(0, 3), chance.randint(1, 3)
+            first = chance.randint(1, cars)
+            lengths = [first, cars - first] if first < cars else [cars]
+            night = Night(lengths, chance.sample(range(1, cars + 1), cars), tracks, 512, chance.choice([OPEN, CLOSED]))
+            wanted = fewest_of_all(night, steps)
+            if wanted is None:
+                self.refused(5, derive(night).steps, 0, fewest_passes, night, steps)
+            else:
+                self.assertEqual(fewest_passes(night, steps), Derived(steps, cars + sum(map(int.bit_count, wanted)), list(wanted)))
+            found += wanted is not None
+        self.assertTrue(10 < found < 50, found)
 
 
 if __name__ == "__main__":

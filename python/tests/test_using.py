@@ -1,7 +1,6 @@
 """docs/USING.md tells the truth: its Python examples and its command line, run as they stand there."""
 
 import doctest
-import json
 import re
 import shlex
 import textwrap
@@ -34,10 +33,10 @@ class Using(Scratch):
         self.file("cards/first.card", CARD)
         self.file("cards/unsorted.card", UNSORTED)
         section = USING.read_text().partition("## The command line")[2]
-        for text in re.findall(r"^    (\{.*\})$", section, re.MULTILINE):
-            self.file({"open": "night.json", "closed": "closed.json"}[json.loads(text)["mark"]], text.encode())
+        for name, text in re.findall(r"`(\w+\.json)` has\n\n    (\{.*\})$", section, re.MULTILINE):
+            self.file(name, text.encode())
         commands = re.findall(r"^    altairpeg (.*)$", section, re.MULTILINE)
-        self.assertGreaterEqual(len(commands), 8)
+        self.assertGreaterEqual(len(commands), 10)
         printed = "".join(altairpeg(*shlex.split(command), cwd=self.folder).stdout.decode() for command in commands)
         for line in printed.splitlines():
             self.assertIn(line, section)
