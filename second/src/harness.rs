@@ -1,9 +1,9 @@
 //! Drives an implementation of the calls and the reference with the same input, and
 //! compares every answer, every item written and every item that must stay.
 
-use crate::answers::{Answer, CardAnswer, Timings};
+use crate::answers::{Answer, CardAnswer, Refusal, Timings};
 use crate::random::Random;
-use crate::reference::{self, CardBuffers};
+use crate::reference::{self, CardBuffers, Derived};
 use crate::steps;
 use crate::tally::{Call, Detail, Tally};
 use crate::{Calls, Night, OpenPlan, Plan};
@@ -137,9 +137,53 @@ pub fn compare_derive<C: Calls>(
     limit: usize,
     codes_len: usize,
 ) -> Result<(), String> {
-    let lent = LentPlan::of(random, night, &[]);
-    let mut codes = Lent::blank(codes_len, || random.bits() as u16);
+    let asked = Asked {
+        call: Call::Derive(night.mark),
+        night,
+        steps: limit,
+        codes_len,
+    };
     let outcome = reference::derive(night, limit, codes_len);
+    compare_codes::<C>(random, tally, asked, outcome, C::derive)
+}
+
+/// The reference finds its codes by this search.
+pub fn compare_fewest_passes<C: Calls>(
+    random: &mut Random,
+    tally: &mut Tally,
+    night: Night,
+    steps: usize,
+    codes_len: usize,
+    search: impl Fn(Night, usize) -> Option<Vec<u16>>,
+) -> Result<(), String> {
+    let asked = Asked {
+        call: Call::FewestPasses(night.mark),
+        night,
+        steps,
+        codes_len,
+    };
+    let outcome = reference::fewest_passes(night, steps, codes_len, search);
+    compare_codes::<C>(random, tally, asked, outcome, C::fewest_passes)
+}
+
+/// What is asked of a call that finds codes: the steps may be a limit.
+#[derive(Debug)]
+struct Asked<'a> {
+    call: Call,
+    night: Night<'a>,
+    steps: usize,
+    codes_len: usize,
+}
+
+fn compare_codes<C: Calls>(
+    random: &mut Random,
+    tally: &mut Tally,
+    asked: Asked,
+    outcome: Result<Derived, Refusal>,
+    find: fn(Night, usize, &mut [u16]) -> C::Told,
+) -> Result<(), String> {
+    let lent = LentPlan::of(random, asked.night, &[]);
+    let mut codes = Lent::blank(asked.codes_len, || random.bits() as u16);
     let written = outcome.as_ref().map_or(&[][..], |derived| &derived.codes);
     let mut lists = lent.items();
     lists.push(codes.after_writing(written));
@@ -148,8 +192,8 @@ pub fn compare_derive<C: Calls>(
         lists,
         card: Vec::new(),
     };
-    count(tally, Call::Derive(night.mark), wanted.answer);
-    let answer = C::derive(lent.night(night), limit, codes.part_mut()).into();
+    count(tally, asked.call, wanted.answer);
+    let answer = find(lent.night(asked.night), asked.steps, codes.part_mut()).into();
     let mut lists = lent.items();
     lists.push(codes.whole);
     let got = Outcome {
@@ -157,8 +201,7 @@ pub fn compare_derive<C: Calls>(
         lists,
         card: Vec::new(),
     };
-    let input = || format!("derive {night:?} limit {limit} buffer {codes_len}");
-    judge(C::NAME, input, wanted, got)
+    judge(C::NAME, || format!("{asked:?}"), wanted, got)
 }
 
 pub fn compare_check<C: Calls>(

@@ -9,6 +9,7 @@ pub mod idiomatic;
 #[cfg(feature = "library")]
 pub mod library;
 pub mod nights;
+pub mod passes;
 pub mod programs;
 pub mod random;
 pub mod reference;
@@ -86,6 +87,7 @@ pub trait Calls {
     type Told: Into<Answer>;
     type CardTold: Into<CardAnswer>;
     fn derive(night: Night, limit: usize, codes: &mut [u16]) -> Self::Told;
+    fn fewest_passes(night: Night, steps: usize, codes: &mut [u16]) -> Self::Told;
     fn check(plan: Plan) -> Self::Told;
     fn replay(plan: Plan, stage: usize, on: &mut [u16], at: &mut [u16]) -> Self::Told;
     fn read(

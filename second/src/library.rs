@@ -16,6 +16,11 @@ impl Calls for Library {
     }
 
     #[inline]
+    fn fewest_passes(night: Night, steps: usize, codes: &mut [u16]) -> altairpeg_sys::Answer {
+        altairpeg_sys::fewest_passes(lent_night(night), steps, codes)
+    }
+
+    #[inline]
     fn check(plan: Plan) -> altairpeg_sys::Answer {
         altairpeg_sys::check(lent(plan))
     }

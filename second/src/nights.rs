@@ -2,6 +2,7 @@
 
 use crate::answers::Timings;
 use crate::bits::Packer;
+use crate::passes::go_car_by_car;
 use crate::random::Random;
 use crate::reference::{derive, write};
 use crate::steps::{breaks_before, kept_codes, two_to};
@@ -173,6 +174,19 @@ fn blocks_reversed(random: &mut Random, cars: &[u16]) -> Vec<u16> {
     last_block_first(cars, &lengths)
 }
 
+/// An open night of one train with exactly so many breaks, on eight tracks with room for all cars.
+pub fn train_with_breaks(random: &mut Random, cars: usize, breaks: usize) -> OwnNight {
+    let sorted: Vec<u16> = (1..=cars as u16).collect();
+    let blocks = any_lengths(random, cars, breaks + 1);
+    OwnNight {
+        lengths: vec![cars as u16],
+        inbound: last_block_first(&sorted, &blocks),
+        tracks: 8,
+        room: 512,
+        mark: Mark::Open,
+    }
+}
+
 fn last_block_first(cars: &[u16], lengths: &[u16]) -> Vec<u16> {
     let mut inbound = Vec::new();
     let mut end = cars.len();
@@ -199,6 +213,18 @@ pub fn any_plan(random: &mut Random, night: &OwnNight) -> OwnPlan {
         plan.night.room = tight_room(random, &plan);
     }
     plan
+}
+
+/// The plan of these steps, or eight, with the fewest passes, or one with the lowest code for all cars where no
+/// codes build the trains.
+pub fn lightest_plan(night: &OwnNight, steps: usize) -> OwnPlan {
+    let steps = steps.min(8);
+    let lowest = || vec![lowest_code(night.mark); night.inbound.len()];
+    OwnPlan {
+        night: night.clone(),
+        steps,
+        codes: go_car_by_car(night.lend(), steps).unwrap_or_else(lowest),
+    }
 }
 
 /// The derived plan, or one with the lowest code for all cars where no eight steps are enough.
@@ -648,25 +674,33 @@ pub fn orders(cars: u16) -> Vec<Vec<u16>> {
     all
 }
 
-/// All ways to cut the cars into one to three trains.
-pub fn train_lengths(cars: u16) -> Vec<Vec<u16>> {
-    let mut all = vec![vec![cars]];
-    for first in 1..cars {
-        all.push(vec![first, cars - first]);
-        for second in 1..cars - first {
-            all.push(vec![first, second, cars - first - second]);
+/// The cars 1 to n cut into blocks in all ways, the last block in front.
+pub fn block_orders(cars: u16) -> Vec<Vec<u16>> {
+    let sorted: Vec<u16> = (1..=cars).collect();
+    let blocks = all_trains(cars);
+    let orders = blocks
+        .iter()
+        .map(|lengths| last_block_first(&sorted, lengths));
+    orders.collect()
+}
+
+/// All ways to cut the cars into trains.
+pub fn all_trains(cars: u16) -> Vec<Vec<u16>> {
+    if cars == 0 {
+        return vec![Vec::new()];
+    }
+    let mut all = Vec::new();
+    for first in 1..=cars {
+        for rest in all_trains(cars - first) {
+            all.push([vec![first], rest].concat());
         }
     }
     all
 }
 
-/// All code lists for these steps: a counter with one digit below 2^h for each car.
-pub fn code_lists(cars: usize, steps: usize) -> impl Iterator<Item = Vec<u16>> {
-    std::iter::successors(Some(vec![0; cars]), move |codes| {
-        let place = codes.iter().position(|&code| code + 1 < two_to(steps))?;
-        let mut next = codes.clone();
-        next[..place].fill(0);
-        next[place] += 1;
-        Some(next)
-    })
+/// All ways to cut the cars into one to three trains.
+pub fn train_lengths(cars: u16) -> Vec<Vec<u16>> {
+    let mut all = all_trains(cars);
+    all.retain(|lengths| lengths.len() <= 3);
+    all
 }

@@ -6,7 +6,7 @@ use crate::steps::{breaks_before, codes_for, fewest_steps, two_to};
 use crate::yard::{first_out_of_order, Replay, Yard};
 use crate::{Mark, Night, OpenPlan, Plan};
 
-/// What an accepted derive answers and writes.
+/// What an accepted derive or search for the fewest passes answers and writes.
 #[derive(Clone, Debug, PartialEq, Eq)]
 pub struct Derived {
     pub steps: usize,
@@ -53,12 +53,36 @@ pub fn derive(night: Night, limit: usize, codes_len: usize) -> Result<Derived, R
     test_night(night, limit)?;
     test_buffer(codes_len, night.inbound.len(), 3)?;
     let breaks = breaks_before(night);
-    let most_breaks = breaks.iter().copied().max().unwrap_or(0);
-    let steps = fewest_steps(night.mark, night.tracks, most_breaks);
+    let steps = steps_needed(night, &breaks);
     if steps > limit {
         return Err(refuse(5, steps));
     }
     let codes = codes_for(night.mark, &breaks, night.tracks, steps);
+    with_room(night, steps, codes)
+}
+
+/// The codes come from a search that is given the night and the steps, and may find that there are none.
+pub fn fewest_passes(
+    night: Night,
+    steps: usize,
+    codes_len: usize,
+    search: impl Fn(Night, usize) -> Option<Vec<u16>>,
+) -> Result<Derived, Refusal> {
+    test_night(night, steps)?;
+    test_buffer(codes_len, night.inbound.len(), 3)?;
+    match search(night, steps) {
+        Some(codes) => with_room(night, steps, codes),
+        None => Err(refuse(5, steps_needed(night, &breaks_before(night)))),
+    }
+}
+
+fn steps_needed(night: Night, breaks: &[usize]) -> usize {
+    let most_breaks = breaks.iter().copied().max().unwrap_or(0);
+    fewest_steps(night.mark, night.tracks, most_breaks)
+}
+
+/// These codes with the passes of their replay, unless it overfills a track.
+fn with_room(night: Night, steps: usize, codes: Vec<u16>) -> Result<Derived, Refusal> {
     let replay = Replay::of(Plan {
         night,
         steps,

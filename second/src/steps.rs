@@ -7,9 +7,9 @@ use std::sync::OnceLock;
 pub const MOST_TRACKS: usize = 8;
 pub const MOST_STEPS: usize = 8;
 
-/// Whether a lone car with this code, replayed on these tracks in a night of this mark, is neither
-/// pulled early nor turned away by a barred destination.
-pub fn is_usable(mark: Mark, code: u16, tracks: usize, steps: usize) -> bool {
+/// The roll-ins of a lone car with this code, replayed on these tracks in a night of this mark, or
+/// nothing where it is pulled early or turned away by a barred destination.
+fn lone_passes(mark: Mark, code: u16, tracks: usize, steps: usize) -> Option<u16> {
     let night = Night {
         lengths: &[1],
         inbound: &[1],
@@ -22,7 +22,13 @@ pub fn is_usable(mark: Mark, code: u16, tracks: usize, steps: usize) -> bool {
         steps,
         codes: &[code],
     };
-    Replay::of(plan).goes_on()
+    let replay = Replay::of(plan);
+    replay.goes_on().then(|| replay.end().passes as u16)
+}
+
+/// Whether a lone car with this code gets through the yard.
+pub fn is_usable(mark: Mark, code: u16, tracks: usize, steps: usize) -> bool {
+    lone_passes(mark, code, tracks, steps).is_some()
 }
 
 /// The usable codes below 2^h, counted upward, each tried by a replay of its own.
@@ -44,13 +50,29 @@ pub fn two_to(steps: usize) -> u16 {
     power
 }
 
-/// The usable codes for at most eight steps, all of them replayed once and kept.
-pub fn kept_codes(mark: Mark, tracks: usize, steps: usize) -> &'static [u16] {
-    static KEPT: OnceLock<[Vec<Vec<Vec<u16>>>; 2]> = OnceLock::new();
+/// What lone cars showed of the codes below 2^h: the usable ones, and the roll-ins with each of all.
+struct Kept {
+    usable: Vec<u16>,
+    passes: Vec<Option<u16>>,
+}
+
+impl Kept {
+    fn of(mark: Mark, tracks: usize, steps: usize) -> Kept {
+        let passes = |code| lone_passes(mark, code, tracks, steps);
+        Kept {
+            usable: usable_codes(mark, tracks, steps),
+            passes: (0..two_to(steps)).map(passes).collect(),
+        }
+    }
+}
+
+/// The codes for at most eight steps, all of them replayed once and kept.
+fn kept(mark: Mark, tracks: usize, steps: usize) -> &'static Kept {
+    static KEPT: OnceLock<[Vec<Vec<Kept>>; 2]> = OnceLock::new();
     let kept = KEPT.get_or_init(|| {
         let by_steps = |mark, tracks| {
             (0..=MOST_STEPS)
-                .map(|steps| usable_codes(mark, tracks, steps))
+                .map(|steps| Kept::of(mark, tracks, steps))
                 .collect()
         };
         let by_tracks = |mark| {
@@ -61,6 +83,16 @@ pub fn kept_codes(mark: Mark, tracks: usize, steps: usize) -> &'static [u16] {
         MARKS.map(by_tracks)
     });
     &kept[mark.number()][tracks - 1][steps]
+}
+
+/// The usable codes for at most eight steps.
+pub fn kept_codes(mark: Mark, tracks: usize, steps: usize) -> &'static [u16] {
+    &kept(mark, tracks, steps).usable
+}
+
+/// The roll-ins of a lone car with each code of at most eight steps, or nothing where it is not usable.
+pub fn kept_passes(mark: Mark, tracks: usize, steps: usize) -> &'static [Option<u16>] {
+    &kept(mark, tracks, steps).passes
 }
 
 /// F(0), F(1), .. by the paper's recursion, up to the first that is at least `enough`.
@@ -118,7 +150,7 @@ pub fn breaks_before(night: Night) -> Vec<usize> {
 }
 
 /// Whether the pair of this car and the next is a break, both being in one train.
-fn is_break(night: Night, car: u16) -> bool {
+pub fn is_break(night: Night, car: u16) -> bool {
     place_of(night.inbound, car + 1) < place_of(night.inbound, car)
 }
 

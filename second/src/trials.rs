@@ -1,18 +1,20 @@
 //! One trial: a night from a seed, with plans and cards for it, through every call.
 
 use crate::harness::{
-    compare_check, compare_derive, compare_fewest_tracks, compare_price, compare_read,
-    compare_replay, compare_write, StageBuffers,
+    compare_check, compare_derive, compare_fewest_passes, compare_fewest_tracks, compare_price,
+    compare_read, compare_replay, compare_write, StageBuffers,
 };
 use crate::nights::{
-    any_card, any_night, any_plan, any_timings, code_lists, damage_codes, damage_night,
-    derived_plan, orders, shuffled, tight_room, train_lengths, trial_nights, whole_card,
-    wild_count, OwnNight, OwnPlan,
+    all_trains, any_card, any_night, any_plan, any_timings, block_orders, damage_codes,
+    damage_night, derived_plan, lightest_plan, orders, shuffled, tight_room, train_lengths,
+    trial_nights, whole_card, wild_count, OwnNight, OwnPlan,
 };
+use crate::passes::{code_lists, go_car_by_car, try_all_lists};
 use crate::random::Random;
 use crate::reference::{card_length, CardBuffers};
 use crate::tally::Tally;
-use crate::{Calls, Mark, MARKS};
+use crate::{Calls, Mark, Night, MARKS};
+use std::cell::OnceCell;
 
 /// What all trials of a run share.
 pub struct Bench<'a> {
@@ -29,7 +31,8 @@ pub fn trial<C: Calls>(bench: &mut Bench) -> Result<(), String> {
     replay_trial::<C>(bench, &plan)?;
     write_trial::<C>(bench, &plan)?;
     read_trial::<C>(bench, &plan)?;
-    price_trial::<C>(bench)
+    price_trial::<C>(bench)?;
+    fewest_passes_trial::<C>(bench, &night)
 }
 
 fn derive_trial<C: Calls>(bench: &mut Bench, night: &OwnNight) -> Result<(), String> {
@@ -51,10 +54,44 @@ fn any_limit(random: &mut Random, night: &OwnNight) -> usize {
         12..=15 => random.below(9),
         _ => derived_plan(night).steps.saturating_sub(random.below(2)),
     };
-    if random.chance(5) {
-        return wild_count(random, limit);
+    seldom_wild(random, limit)
+}
+
+fn seldom_wild(random: &mut Random, steps: usize) -> usize {
+    match random.chance(5) {
+        true => wild_count(random, steps),
+        false => steps,
     }
-    limit
+}
+
+/// Of the longer nights, on which the reference takes long, some are left out.
+fn fewest_passes_trial<C: Calls>(bench: &mut Bench, night: &OwnNight) -> Result<(), String> {
+    let random = &mut *bench.random;
+    if night.inbound.len() > 64 && random.chance(85) {
+        return Ok(());
+    }
+    let steps = any_steps(random, night);
+    let mut night = night.clone();
+    if random.chance(50) {
+        night.room = tight_room(random, &lightest_plan(&night, steps));
+    }
+    damage_some(random, &mut night);
+    let codes_len = any_length(random, night.inbound.len());
+    let lent = night.lend();
+    compare_fewest_passes::<C>(random, bench.tally, lent, steps, codes_len, go_car_by_car)
+}
+
+/// Mostly as many steps as the night needs or up to two more, else one fewer, eight, any number of them, or no number
+/// of steps.
+fn any_steps(random: &mut Random, night: &OwnNight) -> usize {
+    let needed = derived_plan(night).steps;
+    let steps = match random.below(20) {
+        0..=9 => (needed + random.below(3)).min(8),
+        10..=11 => needed.saturating_sub(1),
+        12..=13 => 8,
+        _ => random.below(9),
+    };
+    seldom_wild(random, steps)
 }
 
 fn check_trial<C: Calls>(bench: &mut Bench, plan: &OwnPlan) -> Result<(), String> {
@@ -152,16 +189,49 @@ pub fn paper_nights<C: Calls>(tally: &mut Tally) -> Result<(), String> {
     };
     for (lengths, inbound) in trial_nights() {
         for tracks in 1..=8 {
-            for room in [1, 2, 3, 512] {
+            let night = OwnNight {
+                lengths: lengths.clone(),
+                inbound: inbound.clone(),
+                tracks,
+                room: 512,
+                mark: Mark::Open,
+            };
+            open_and_closed(&night, |night| {
+                searched_night::<C>(&mut bench, night, 8, go_car_by_car)
+            })?;
+            for room in ROOMS {
                 let night = OwnNight {
-                    lengths: lengths.clone(),
-                    inbound: inbound.clone(),
-                    tracks,
                     room,
-                    mark: Mark::Open,
+                    ..night.clone()
                 };
                 open_and_closed(&night, |night| whole_night::<C>(&mut bench, night))?;
             }
+        }
+    }
+    Ok(())
+}
+
+/// Little room, and much.
+const ROOMS: [usize; 4] = [1, 2, 3, 512];
+
+/// The fewest passes of a night, with 0 to these steps and all rooms, beside those that a search finds.
+fn searched_night<C: Calls>(
+    bench: &mut Bench,
+    night: &OwnNight,
+    most_steps: usize,
+    search: fn(Night, usize) -> Option<Vec<u16>>,
+) -> Result<(), String> {
+    for steps in 0..=most_steps {
+        // The search takes long, and finds the same for any room.
+        let found = OnceCell::new();
+        let find = |night: Night, steps| found.get_or_init(|| search(night, steps)).clone();
+        for room in ROOMS {
+            let night = Night {
+                room,
+                ..night.lend()
+            };
+            let cars = night.inbound.len();
+            compare_fewest_passes::<C>(bench.random, bench.tally, night, steps, cars, find)?;
         }
     }
     Ok(())
@@ -217,9 +287,47 @@ pub fn small_nights<C: Calls>(tally: &mut Tally, most_cars: u16) -> Result<(), S
         tally,
     };
     for cars in 1..=most_cars {
-        for inbound in orders(cars) {
-            for lengths in train_lengths(cars) {
-                for tracks in 1..=2 {
+        let nights = Nights {
+            trains: train_lengths(cars),
+            most_tracks: 2,
+            ..Nights::of(cars)
+        };
+        nights.each(|night| small_plans::<C>(&mut bench, night))?;
+    }
+    Ok(())
+}
+
+/// Nights of a few cars: in each of these orders and trains, on one to so many tracks, open and closed.
+pub struct Nights {
+    orders: Vec<Vec<u16>>,
+    trains: Vec<Vec<u16>>,
+    most_tracks: usize,
+}
+
+impl Nights {
+    /// All nights of these cars but for their room.
+    pub fn of(cars: u16) -> Nights {
+        Nights {
+            orders: orders(cars),
+            trains: all_trains(cars),
+            most_tracks: 8,
+        }
+    }
+
+    /// One train that comes in as blocks of any length, the last one first, on up to three tracks.
+    pub fn in_blocks(cars: u16) -> Nights {
+        Nights {
+            orders: block_orders(cars),
+            trains: vec![vec![cars]],
+            most_tracks: 3,
+        }
+    }
+
+    /// Each of them, with room for two cars.
+    fn each(&self, mut compare: impl FnMut(&OwnNight) -> Result<(), String>) -> Result<(), String> {
+        for inbound in &self.orders {
+            for lengths in &self.trains {
+                for tracks in 1..=self.most_tracks {
                     let night = OwnNight {
                         lengths: lengths.clone(),
                         inbound: inbound.clone(),
@@ -227,12 +335,26 @@ pub fn small_nights<C: Calls>(tally: &mut Tally, most_cars: u16) -> Result<(), S
                         room: 2,
                         mark: Mark::Open,
                     };
-                    open_and_closed(&night, |night| small_plans::<C>(&mut bench, night))?;
+                    open_and_closed(&night, &mut compare)?;
                 }
             }
         }
+        Ok(())
     }
-    Ok(())
+}
+
+/// The fewest passes of these nights with 0 to so many steps, beside those found by trying every list of codes.
+pub fn tried_nights<C: Calls>(
+    tally: &mut Tally,
+    nights: &Nights,
+    most_steps: usize,
+) -> Result<(), String> {
+    let mut random = Random::new(0, 4);
+    let mut bench = Bench {
+        random: &mut random,
+        tally,
+    };
+    nights.each(|night| searched_night::<C>(&mut bench, night, most_steps, try_all_lists))
 }
 
 /// Lengths of lists: short ones, those around a word of 64, and the longest.

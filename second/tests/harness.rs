@@ -3,9 +3,13 @@
 use second::answers::{refuse, Answer, CardAnswer, PriceAnswer, Timings};
 use second::idiomatic::Idiomatic;
 use second::random::Random;
+use second::steps::breaks_before;
 use second::tally::Tally;
-use second::trials::{paper_nights, small_nights, table_trial, trial, zero_codes, Bench};
+use second::trials::{
+    paper_nights, small_nights, table_trial, trial, tried_nights, zero_codes, Bench, Nights,
+};
 use second::{Calls, Mark, Night, OpenPlan, Plan};
+use std::iter::repeat_n;
 
 const SEED: u64 = 7;
 const TRIALS: u64 = 4000;
@@ -24,6 +28,14 @@ fn run<C: Calls>(tally: &mut Tally) -> Result<(), String> {
     Ok(())
 }
 
+/// The fewest passes of a few cars in up to three steps, with every list tried.
+fn try_lists<C: Calls>(tally: &mut Tally) -> Result<(), String> {
+    for cars in 1..=3 {
+        tried_nights::<C>(tally, &Nights::of(cars), 3)?;
+    }
+    tried_nights::<C>(tally, &Nights::in_blocks(5), 3)
+}
+
 #[test]
 fn idiomatic_calls_answer_as_the_reference_does() {
     let mut tally = Tally::default();
@@ -31,6 +43,7 @@ fn idiomatic_calls_answer_as_the_reference_does() {
     assert_eq!(small_nights::<Idiomatic>(&mut tally, 3), Ok(()));
     assert_eq!(paper_nights::<Idiomatic>(&mut tally), Ok(()));
     assert_eq!(zero_codes::<Idiomatic>(&mut tally), Ok(()));
+    assert_eq!(try_lists::<Idiomatic>(&mut tally), Ok(()));
     assert!(tally.total() > 6 * TRIALS);
 }
 
@@ -63,6 +76,21 @@ const ORDER_BEFORE_ZERO: usize = 25;
 const ZERO_CODE_REPLAYED: usize = 26;
 const CARD_TAKEN_FOR_CLOSED: usize = 27;
 const MARK_WHEN_REFUSED: usize = 28;
+const LARGER_AMONG_EQUALS: usize = 29;
+const DERIVED_CODES: usize = 30;
+const BLOCKS_FOR_CARS: usize = 31;
+const ONE_TRAIN_OF_ALL: usize = 32;
+const OPEN_CODES_FOUND: usize = 33;
+const STEPS_AS_LIMIT: usize = 34;
+const NO_ROOM_SAID_AS_NO_CODES: usize = 35;
+const OTHER_CODES_WITH_ROOM: usize = 36;
+const LAST_OVERFULL_STEP: usize = 37;
+const ONE_STEP_MORE_NEEDED: usize = 38;
+const STEPS_BEFORE_BUFFER: usize = 39;
+const ROOM_BEFORE_STEPS: usize = 40;
+const FOUND_AND_REFUSED: usize = 41;
+const ONE_FOUND_CODE_MORE: usize = 42;
+const ONE_PASS_FEWER: usize = 43;
 
 /// The idiomatic calls with one fault.
 struct Faulty<const FAULT: usize>;
@@ -102,6 +130,14 @@ impl<const FAULT: usize> Calls for Faulty<FAULT> {
             _ => (),
         }
         answer
+    }
+
+    fn fewest_passes(night: Night, steps: usize, codes: &mut [u16]) -> Answer {
+        match FAULT {
+            LARGER_AMONG_EQUALS => larger_among_equals(night, steps, codes),
+            BLOCKS_FOR_CARS => blocks_for_cars(night, steps, codes),
+            _ => other_codes::<FAULT>(night, steps, codes),
+        }
     }
 
     fn check(plan: Plan) -> Answer {
@@ -223,9 +259,181 @@ fn check_zero_codes<const FAULT: usize>(plan: Plan) -> Answer {
     answer
 }
 
+/// The codes with the fewest passes of another night, or those that `found_fault` and `refused_fault` make of them.
+fn other_codes<const FAULT: usize>(night: Night, steps: usize, codes: &mut [u16]) -> Answer {
+    let whole = [night.inbound.len() as u16];
+    let asked = match FAULT {
+        ONE_TRAIN_OF_ALL if night.lengths.len() == 2 => Night {
+            lengths: &whole,
+            ..night
+        },
+        OPEN_CODES_FOUND => Night {
+            mark: Mark::Open,
+            ..night
+        },
+        _ => night,
+    };
+    let answer = Idiomatic::fewest_passes(asked, steps, codes);
+    match answer.number {
+        0 => found_fault::<FAULT>(night, steps, codes, answer),
+        _ => refused_fault::<FAULT>(night, steps, codes, answer),
+    }
+}
+
+fn found_fault<const FAULT: usize>(
+    night: Night,
+    steps: usize,
+    codes: &mut [u16],
+    mut answer: Answer,
+) -> Answer {
+    let cars = night.inbound.len();
+    match FAULT {
+        DERIVED_CODES => answer.b = Idiomatic::derive(ample(night), steps, codes).b,
+        STEPS_AS_LIMIT => {
+            let mut found = vec![0; cars];
+            let told = |fewer| Idiomatic::fewest_passes(night, fewer, &mut found);
+            let as_few = |other: &Answer| (other.number, other.b) == (0, answer.b);
+            answer = (0..=steps).map(told).find(as_few).unwrap_or(answer);
+        }
+        ONE_FOUND_CODE_MORE if codes.len() > cars => codes[cars] = 0,
+        ONE_PASS_FEWER => answer.b -= 1,
+        _ => (),
+    }
+    answer
+}
+
+fn refused_fault<const FAULT: usize>(
+    night: Night,
+    steps: usize,
+    codes: &mut [u16],
+    answer: Answer,
+) -> Answer {
+    let mut ample_codes = vec![0; night.inbound.len()];
+    // What is told in its place, if it has this number.
+    let (other, number) = match (FAULT, answer.number) {
+        (NO_ROOM_SAID_AS_NO_CODES, 6) | (ONE_STEP_MORE_NEEDED, 5) => {
+            (refuse(5, steps + 1).into(), 5)
+        }
+        (LAST_OVERFULL_STEP, 6) => (last_overfull(night, steps, answer), 6),
+        (STEPS_BEFORE_BUFFER, 4) => {
+            let told = Idiomatic::fewest_passes(night, steps, &mut ample_codes);
+            (told, 5)
+        }
+        (ROOM_BEFORE_STEPS, 5) => (Idiomatic::derive(night, 8, &mut ample_codes), 6),
+        (OTHER_CODES_WITH_ROOM, 6) => {
+            let derived = Idiomatic::derive(night, steps, codes);
+            (
+                Answer {
+                    a: steps,
+                    ..derived
+                },
+                0,
+            )
+        }
+        (FOUND_AND_REFUSED, 6) => {
+            Idiomatic::fewest_passes(ample(night), steps, codes);
+            (answer, 6)
+        }
+        _ => (answer, answer.number),
+    };
+    match other.number == number {
+        true => other,
+        false => answer,
+    }
+}
+
+/// The same night with room for all cars.
+fn ample(night: Night) -> Night {
+    Night { room: 512, ..night }
+}
+
+fn last_overfull(night: Night, steps: usize, answer: Answer) -> Answer {
+    let mut codes = vec![0; night.inbound.len()];
+    Idiomatic::fewest_passes(ample(night), steps, &mut codes);
+    let pulled = |step: usize| codes.iter().filter(|&code| code >> step & 1 == 1).count();
+    let last = (0..steps).rfind(|&step| pulled(step) > night.room);
+    last.map_or(answer, |a| Answer {
+        a,
+        b: pulled(a),
+        ..answer
+    })
+}
+
+/// The found codes, or, in short nights, a list with a greater code for one car, if check accepts it with as many
+/// passes.
+fn larger_among_equals(night: Night, steps: usize, codes: &mut [u16]) -> Answer {
+    let answer = Idiomatic::fewest_passes(night, steps, codes);
+    let cars = night.inbound.len();
+    if answer.number != 0 || cars > 8 {
+        return answer;
+    }
+    let mut larger = codes[..cars].to_vec();
+    for car in 0..cars {
+        for code in codes[car] + 1..1 << steps {
+            larger[car] = code;
+            if checked(night, steps, &larger) == Some(answer.b) {
+                codes[car] = code;
+                return answer;
+            }
+        }
+        larger[car] = codes[car];
+    }
+    answer
+}
+
+/// The passes of codes that check accepts.
+fn checked(night: Night, steps: usize, codes: &[u16]) -> Option<usize> {
+    let told = Idiomatic::check(Plan {
+        night,
+        steps,
+        codes,
+    });
+    (told.number == 0).then_some(told.a)
+}
+
+/// The codes with the fewest passes of a night in which the cars between two breaks are one car: as if a block of many
+/// cars cost no more than one of few.
+fn blocks_for_cars(night: Night, steps: usize, codes: &mut [u16]) -> Answer {
+    let answer = Idiomatic::fewest_passes(night, steps, codes);
+    if answer.number != 0 {
+        return answer;
+    }
+    let breaks = breaks_before(night);
+    let mut rest = &breaks[..];
+    let (mut blocks, mut trains) = (Vec::new(), Vec::new());
+    for &length in night.lengths {
+        let (train, later) = rest.split_at(usize::from(length));
+        blocks.extend(train.chunk_by(|one, next| one == next).map(<[usize]>::len));
+        trains.push(train[train.len() - 1] as u16 + 1);
+        rest = later;
+    }
+    let of_blocks = Night {
+        lengths: &trains,
+        inbound: &(1..=blocks.len() as u16).rev().collect::<Vec<u16>>(),
+        ..ample(night)
+    };
+    let mut found = vec![0; blocks.len()];
+    Idiomatic::fewest_passes(of_blocks, steps, &mut found);
+    let of_cars = found
+        .iter()
+        .zip(blocks)
+        .flat_map(|(&code, cars)| repeat_n(code, cars));
+    let of_cars: Vec<u16> = of_cars.collect();
+    codes[..of_cars.len()].copy_from_slice(&of_cars);
+    let passes = checked(ample(night), steps, &of_cars);
+    Answer::done(steps, passes.unwrap_or(0))
+}
+
 fn is_found<const FAULT: usize>() {
     let found = run::<Faulty<FAULT>>(&mut Tally::default());
     assert!(found.is_err(), "fault {FAULT} is not found");
+}
+
+/// By the trials, and by trying every list as well.
+fn is_found_twice<const FAULT: usize>() {
+    is_found::<FAULT>();
+    let found = try_lists::<Faulty<FAULT>>(&mut Tally::default());
+    assert!(found.is_err(), "fault {FAULT} is not found by trying");
 }
 
 #[test]
@@ -236,6 +444,29 @@ fn faults_of_derive_are_found() {
     is_found::<LENGTH_IN_16_BITS>();
     is_found::<OPEN_PLAN_DERIVED>();
     is_found::<STEPS_OF_OPEN>();
+}
+
+#[test]
+fn faults_in_the_fewest_passes_are_found() {
+    is_found_twice::<LARGER_AMONG_EQUALS>();
+    is_found_twice::<DERIVED_CODES>();
+    is_found_twice::<BLOCKS_FOR_CARS>();
+    is_found_twice::<ONE_TRAIN_OF_ALL>();
+    is_found_twice::<OPEN_CODES_FOUND>();
+    is_found_twice::<STEPS_AS_LIMIT>();
+    is_found_twice::<ONE_PASS_FEWER>();
+}
+
+#[test]
+fn faults_in_refusing_the_fewest_passes_are_found() {
+    is_found_twice::<NO_ROOM_SAID_AS_NO_CODES>();
+    is_found_twice::<LAST_OVERFULL_STEP>();
+    is_found_twice::<ONE_STEP_MORE_NEEDED>();
+    is_found_twice::<ROOM_BEFORE_STEPS>();
+    is_found_twice::<FOUND_AND_REFUSED>();
+    is_found::<OTHER_CODES_WITH_ROOM>();
+    is_found::<STEPS_BEFORE_BUFFER>();
+    is_found::<ONE_FOUND_CODE_MORE>();
 }
 
 #[test]

@@ -1,7 +1,8 @@
 //! The order of refusals: an input with every fault, mended one fault at a time.
 
 use second::answers::{Refusal, Timings};
-use second::reference::{check, derive, price, replay, write};
+use second::passes::{go_car_by_car, try_all_lists};
+use second::reference::{check, derive, fewest_passes, price, replay, write, Derived};
 use second::{Mark, Night, Plan};
 
 /// A plan that owns its lists, so that one fault after the other can be mended.
@@ -75,10 +76,13 @@ fn expect(call: &str, found: Option<Refusal>, wanted: (usize, usize, usize)) {
     assert_eq!(found, Some(wanted), "{call}");
 }
 
-#[test]
-fn derive_tests_1_2_3_4_5_6() {
-    let run = |it: &Faulty, codes_len| derive(it.plan().night, it.steps, codes_len).err();
-    let mended = mend_the_night("derive", &|it| run(it, 0));
+/// A call that finds codes is given a night, its steps or its limit, and the length of the buffer.
+fn finding_tests_1_2_3_4_5_6(
+    call: &str,
+    find: impl Fn(Night, usize, usize) -> Result<Derived, Refusal>,
+) {
+    let run = |it: &Faulty, codes_len| find(it.plan().night, it.steps, codes_len).err();
+    let mended = mend_the_night(call, &|it| run(it, 0));
     // Three cars reversed on one track need two steps, which pull two cars and one; closed they need
     // three, and the first pulls all four cars.
     for (mark, fewest, first_pull) in [(Mark::Open, 2, 2), (Mark::Closed, 3, 4)] {
@@ -87,14 +91,28 @@ fn derive_tests_1_2_3_4_5_6() {
             steps: fewest - 1,
             ..mended.clone()
         };
-        expect("derive", run(&night, 3), (4, 3, 0));
-        expect("derive", run(&night, 4), (5, fewest, 0));
+        expect(call, run(&night, 3), (4, 3, 0));
+        expect(call, run(&night, 4), (5, fewest, 0));
         night.steps = fewest;
         night.room = first_pull - 1;
-        expect("derive", run(&night, 4), (6, 0, first_pull));
+        expect(call, run(&night, 4), (6, 0, first_pull));
         night.room = first_pull;
         assert_eq!(run(&night, 4), None);
         assert_eq!(run(&night, 400), None);
+    }
+}
+
+#[test]
+fn derive_tests_1_2_3_4_5_6() {
+    finding_tests_1_2_3_4_5_6("derive", derive);
+}
+
+#[test]
+fn fewest_passes_tests_1_2_3_4_5_6() {
+    for search in [go_car_by_car, try_all_lists] {
+        finding_tests_1_2_3_4_5_6("fewest passes", |night, steps, codes_len| {
+            fewest_passes(night, steps, codes_len, search)
+        });
     }
 }
 

@@ -1,7 +1,8 @@
 //! Every small night, open and closed: all inbound orders of up to five cars in one to three trains.
 
 use second::answers::{refuse, Refusal};
-use second::nights::{code_lists, orders, train_lengths};
+use second::nights::{orders, train_lengths};
+use second::passes::code_lists;
 use second::reference::{check, derive, Checked};
 use second::yard::{place_of, Replay};
 use second::{Mark, Night, Plan, MARKS};

@@ -9,7 +9,8 @@ use second::library::Library;
 use second::random::Random;
 use second::tally::Tally;
 use second::trials::{
-    changed_numbers, paper_nights, small_nights, table_trial, trial, zero_codes, Bench,
+    changed_numbers, paper_nights, small_nights, table_trial, trial, tried_nights, zero_codes,
+    Bench, Nights,
 };
 use second::Calls;
 use std::env;
@@ -61,6 +62,9 @@ fn compare_all(run: Run) -> Result<(), String> {
     };
     compare::<Idiomatic>(quick, &mut Tally::default())?;
     let mut tally = Tally::default();
+    if run.first.is_none() {
+        compare_tried::<Library>(&mut tally)?;
+    }
     compare::<Library>(run, &mut tally)?;
     print!("{}", tally.table());
     println!("{} calls, no difference (seed {})", tally.total(), run.seed);
@@ -90,6 +94,18 @@ fn compare<C: Calls>(run: Run, tally: &mut Tally) -> Result<(), String> {
             report_progress::<C>(&format!("{} trials", number + 1), tally, began);
         }
     }
+    Ok(())
+}
+
+/// The fewest passes of up to five cars, with every list of codes tried: five are the fewest for which it matters how many
+/// share a code. The idiomatic calls are left out, since this takes long and the tests do it for them.
+fn compare_tried<C: Calls>(tally: &mut Tally) -> Result<(), String> {
+    let began = Instant::now();
+    for (cars, steps) in [(1, 4), (2, 4), (3, 4), (4, 3)] {
+        tried_nights::<C>(tally, &Nights::of(cars), steps)?;
+    }
+    tried_nights::<C>(tally, &Nights::in_blocks(5), 3)?;
+    report_progress::<C>("every list of codes for up to five cars", tally, began);
     Ok(())
 }
 

@@ -3,7 +3,7 @@
 use second::answers::{Answer, CardAnswer};
 use second::idiomatic::Idiomatic;
 use second::library::Library;
-use second::nights::{derived_plan, night_of, whole_card, OwnNight, OwnPlan};
+use second::nights::{derived_plan, night_of, train_with_breaks, whole_card, OwnNight, OwnPlan};
 use second::random::Random;
 use second::reference;
 use second::{Calls, Mark};
@@ -21,6 +21,8 @@ const ROUND: Duration = Duration::from_micros(200);
 struct Work {
     plan: OwnPlan,
     stage: usize,
+    /// What the fewest passes are asked for: as many steps as the night needs and two to spare, at most eight.
+    steps: usize,
     card: Vec<u8>,
     lengths: Vec<u16>,
     inbound: Vec<u16>,
@@ -37,8 +39,14 @@ impl Work {
         while reference::check(plan.lend()).is_err() {
             plan = any_accepted(random, mark, cars);
         }
+        Work::of(random, plan)
+    }
+
+    fn of(random: &mut Random, plan: OwnPlan) -> Work {
+        let cars = plan.codes.len();
         Work {
             stage: random.within(0..=plan.steps),
+            steps: (plan.steps + 2).min(8),
             card: whole_card(&plan),
             lengths: vec![0; 64],
             inbound: vec![0; cars],
@@ -61,31 +69,58 @@ fn any_accepted(random: &mut Random, mark: Mark, cars: usize) -> OwnPlan {
     derived_plan(&night)
 }
 
-/// The calls in the order of the table, by the mark of their nights: a card holds no closed one.
-const CALLS: [(Mark, &[&str]); 2] = [
-    (Mark::Open, &["derive", "check", "replay", "read", "write"]),
+/// What is called and measured.
+#[derive(Clone, Copy)]
+enum Job {
+    Derive,
+    Check,
+    Replay,
+    Read,
+    Write,
+    FewestPasses,
+}
+
+/// The jobs in the order of the table, with the names of their rows, by the mark of their nights: a card holds no
+/// closed one.
+const JOBS: [(Mark, &[(&str, Job)]); 2] = [
+    (
+        Mark::Open,
+        &[
+            ("derive", Job::Derive),
+            ("check", Job::Check),
+            ("replay", Job::Replay),
+            ("read", Job::Read),
+            ("write", Job::Write),
+            ("fewest-passes", Job::FewestPasses),
+        ],
+    ),
     (
         Mark::Closed,
-        &["derive-closed", "check-closed", "replay-closed"],
+        &[
+            ("derive-closed", Job::Derive),
+            ("check-closed", Job::Check),
+            ("replay-closed", Job::Replay),
+            ("fewest-passes-closed", Job::FewestPasses),
+        ],
     ),
 ];
 
-/// The call at this place in either list.
 #[inline(never)]
-fn call<C: Calls>(place: usize, work: &mut Work) {
+fn call<C: Calls>(job: Job, work: &mut Work) {
     // What is lent comes from memory that was written long ago, as it does for a caller with a night at hand.
     let plan = black_box(&work.plan).lend();
-    match place {
-        0 => done(C::derive(plan.night, 8, &mut work.codes)),
-        1 => done(C::check(plan)),
-        2 => done(C::replay(plan, work.stage, &mut work.on, &mut work.at)),
-        3 => read(C::read(
+    match job {
+        Job::Derive => done(C::derive(plan.night, 8, &mut work.codes)),
+        Job::Check => done(C::check(plan)),
+        Job::Replay => done(C::replay(plan, work.stage, &mut work.on, &mut work.at)),
+        Job::Read => read(C::read(
             black_box(&work.card),
             &mut work.lengths,
             &mut work.inbound,
             &mut work.codes,
         )),
-        _ => done(C::write(plan.opened(), &mut work.bytes)),
+        Job::Write => done(C::write(plan.opened(), &mut work.bytes)),
+        Job::FewestPasses => done(C::fewest_passes(plan.night, work.steps, &mut work.codes)),
     }
 }
 
@@ -108,7 +143,7 @@ struct Times {
 
 /// The rounds of both alternate and are short, so that a machine that changes its pace disturbs both alike; each goes first
 /// as often as the other.
-fn times(place: usize, works: &mut [Work]) -> Times {
+fn times(job: Job, works: &mut [Work]) -> Times {
     let mut best = Times {
         library: f64::INFINITY,
         idiomatic: f64::INFINITY,
@@ -118,11 +153,11 @@ fn times(place: usize, works: &mut [Work]) -> Times {
     for turn in 0..ROUNDS {
         let (library, idiomatic);
         if turn % 2 == 0 {
-            library = round::<Library>(place, works);
-            idiomatic = round::<Idiomatic>(place, works);
+            library = round::<Library>(job, works);
+            idiomatic = round::<Idiomatic>(job, works);
         } else {
-            idiomatic = round::<Idiomatic>(place, works);
-            library = round::<Library>(place, works);
+            idiomatic = round::<Idiomatic>(job, works);
+            library = round::<Library>(job, works);
         }
         best.library = best.library.min(library);
         best.idiomatic = best.idiomatic.min(idiomatic);
@@ -134,12 +169,12 @@ fn times(place: usize, works: &mut [Work]) -> Times {
 }
 
 /// Seconds for all nights once, on average over one round.
-fn round<C: Calls>(place: usize, works: &mut [Work]) -> f64 {
+fn round<C: Calls>(job: Job, works: &mut [Work]) -> f64 {
     let began = Instant::now();
     let mut turns = 0;
     while began.elapsed() < ROUND {
         for work in works.iter_mut() {
-            call::<C>(place, work);
+            call::<C>(job, work);
         }
         turns += 1;
     }
@@ -165,13 +200,15 @@ fn main() {
     println!("| call | cars | library nights/s | idiomatic nights/s | library ns/car | idiomatic ns/car | library/idiomatic |");
     println!("|---|---|---|---|---|---|---|");
     let mut growth = Vec::new();
-    for (mark, names) in CALLS {
+    for (mark, jobs) in JOBS {
         let mut by_size = SIZES.map(|cars| any_works(&mut random, mark, cars));
-        for (place, name) in names.iter().enumerate() {
-            growth.push((*name, print_rows(name, place, &mut by_size)));
+        for &(name, job) in jobs {
+            growth.push((name, print_rows(name, job, &mut by_size)));
         }
     }
+    let longest = print_longest_row(&mut random);
     print_growth(&growth);
+    print_longest_time(&longest);
 }
 
 fn any_works(random: &mut Random, mark: Mark, cars: usize) -> Vec<Work> {
@@ -179,11 +216,40 @@ fn any_works(random: &mut Random, mark: Mark, cars: usize) -> Vec<Work> {
     std::iter::repeat_with(any).take(NIGHTS).collect()
 }
 
+const LONGEST_CARS: usize = 512;
+const LONGEST_BREAKS: usize = 200;
+
+/// Measures the fewest passes of one long train, open, with many breaks, on eight tracks and with eight steps, and prints
+/// their row.
+fn print_longest_row(random: &mut Random) -> Times {
+    let long = || {
+        let night = train_with_breaks(random, LONGEST_CARS, LONGEST_BREAKS);
+        let work = Work::of(random, derived_plan(&night));
+        assert_eq!(work.steps, 8);
+        work
+    };
+    let mut works: Vec<Work> = std::iter::repeat_with(long).take(NIGHTS).collect();
+    let measured = times(Job::FewestPasses, &mut works);
+    println!("{}", row("fewest-passes-breaks", LONGEST_CARS, &measured));
+    measured
+}
+
+/// Microseconds say at once whether a call keeps within its millisecond.
+fn print_longest_time(measured: &Times) {
+    let a_night = |seconds: f64| seconds * 1e6 / NIGHTS as f64;
+    println!(
+        "\nThe fewest passes of {LONGEST_CARS} cars in one train with {LONGEST_BREAKS} breaks, 8 tracks and 8 steps, \
+         take the library {:.1} microseconds, the idiomatic program {:.1}.",
+        a_night(measured.library),
+        a_night(measured.idiomatic)
+    );
+}
+
 /// Measures a call for each size and prints its rows.
-fn print_rows(name: &str, place: usize, by_size: &mut [Vec<Work>; 3]) -> Vec<Times> {
+fn print_rows(name: &str, job: Job, by_size: &mut [Vec<Work>; 3]) -> Vec<Times> {
     let mut all = Vec::new();
     for (cars, works) in SIZES.into_iter().zip(by_size) {
-        let measured = times(place, works);
+        let measured = times(job, works);
         println!("{}", row(name, cars, &measured));
         all.push(measured);
     }
