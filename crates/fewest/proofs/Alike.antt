@@ -4,7 +4,7 @@ use mathlib.Core.Path.{_≡_, refl, sym, ap, _∙_, subst}
 use mathlib.Core.Logic.{⊎-elim}
 use mathlib.Core.Bool.{Bool, true, false, cond}
 use mathlib.Core.List.{List, map}
-use Prim.Native.Nat.{ℕ, zero, suc, _+_, _^_, _≤_, _<_}
+use Prim.Native.Nat.{ℕ, suc, _+_, _^_, _≤_, _<_}
 use native.Mathlib.Nat.{eq-or-lt-of-le, suc-inj}
 use native.Mathlib.Omega.{arith}
 use lib.Count.{ones}
@@ -24,18 +24,8 @@ use Rattle.yard.proofs.yards.Clear.{clear-some}
 use Rattle.yard.proofs.yards.PlanYard.{passes-whole, total-codes, total-map}
 use Rattle.yard.proofs.yards.DerivedPlan.{coded-sorts, by-car}
 use Rattle.fewest.specs.Fewest.{planIn, FewestPasses}
-use Rattle.fewest.proofs.Best.{total-range}
 use Rattle.fewest.proofs.Numbers.{sorts-ruled}
-
--- sums of items that agree but for one
-total-but : (f g : ℕ → ℕ) (a n k : ℕ) → a ≤ k → k < a + n → ((j : ℕ) → (j ≡ k → ⊥) → f j ≡ g j)
-    → total f (upFrom a n) + g k ≡ total g (upFrom a n) + f k
-total-but f g a zero k l m same = absurd (omega arith)
-total-but f g a (suc n) k l m same =
-    ⊎-elim
-    (λ e. omega (arith, ap f e, ap g e, total-range f g (suc a) n (λ j far near. same j (λ q. omega arith))))
-    (λ far. omega (arith, same a (λ q. omega arith), total-but f g (suc a) n k far (omega arith) same))
-    (eq-or-lt-of-le l)
+use Rattle.yard.proofs.general.Lists.{total-but}
 
 -- a rule that holds of low and high holds of numbers no nearer
 ruled-wider : (b : Bool) (low high less more : ℕ) → less ≤ low → high ≤ more → ruled low high b ≡ true → ruled less more b ≡ true

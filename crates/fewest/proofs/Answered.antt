@@ -8,7 +8,7 @@ use Rattle.yard.specs.Limits.{limits}
 use Rattle.yard.specs.Night.{Night}
 use Rattle.yard.specs.Replay.{passes}
 use Rattle.yard.specs.Derived.{stepsNeeded}
-use Rattle.yard.specs.Answers.{says, verdict, written, Ask, bufferAsk, limitTest, roomTest}
+use Rattle.yard.specs.Answers.{says, verdict, Ask, bufferAsk, limitTest, roomTest}
 use Rattle.yard.specs.Calls.{DeriveGiven}
 use Rattle.yard.proofs.Demands.{opening-sound, first-asks, first-hold}
 use Rattle.yard.proofs.calls.Asks.{accepted-exactly}

@@ -4,15 +4,15 @@ use mathlib.Core.Path.{_≡_, sym, ap, _∙_}
 use mathlib.Core.Logic.{⊎-elim}
 use mathlib.Core.Bool.{Bool, true, false}
 use mathlib.Core.List.{List}
-use Prim.Native.Nat.{ℕ, zero, suc, _+_, _≤_, _<_}
+use Prim.Native.Nat.{ℕ, suc, _+_, _≤_, _<_}
 use native.Mathlib.Nat.{le-refl, eq-or-lt-of-le}
 use native.Mathlib.Omega.{arith}
 use lib.ListN.{length, getD}
 use Rattle.yard.specs.Words.{tally, total, upFrom}
 use Rattle.yard.proofs.general.Bools.{clash}
 use Rattle.yard.proofs.general.Numbers.{le-or-lt}
-use Rattle.yard.proofs.general.Lists.{total-same, upFrom-bounds}
 use Rattle.yard.proofs.yards.Counting.{total-split}
+use Rattle.yard.proofs.general.Lists.{total-range}
 
 -- what is asked of numbers by car: how many there are, what each costs, and which cars j, j + 1 are a pair, or a break
 pub record Asked : Type 0 where
@@ -38,33 +38,6 @@ pub record Best (q : Asked) (a n : ℕ) (x : ℕ → ℕ) : Type 0 where
   pub least : (y : ℕ → ℕ) → Fits q a n y → spent q a n x ≤ spent q a n y
   pub smallest : (y : ℕ → ℕ) → Fits q a n y → spent q a n y ≡ spent q a n x
       → (k : ℕ) → a ≤ k → k < a + n → ((j : ℕ) → a ≤ j → j < k → y j ≡ x j) → x k ≤ y k
-
--- ---- sums over the n numbers from a on
-
-pub total-below : (f g : ℕ → ℕ) (a n : ℕ) → ((j : ℕ) → a ≤ j → j < a + n → f j ≤ g j) → total f (upFrom a n) ≤ total g (upFrom a n)
-total-below f g a zero le = le-refl 0
-total-below f g a (suc n) le =
-    omega (arith, le a (le-refl a) (omega arith), total-below f g (suc a) n (λ j l m. le j (omega arith) (omega arith)))
-
--- where no item is above its fellow and the sums are equal, the items are
-pub total-tight : (f g : ℕ → ℕ) (a n : ℕ) → ((j : ℕ) → a ≤ j → j < a + n → f j ≤ g j) → total g (upFrom a n) ≤ total f (upFrom a n)
-    → (j : ℕ) → a ≤ j → j < a + n → f j ≡ g j
-total-tight f g a zero le same j l m = absurd (omega arith)
-total-tight f g a (suc n) le same j l m =
-    ⊎-elim
-    (λ e. omega (arith, ap f e, ap g e, rest, le a (le-refl a) (omega arith)))
-    (λ far. total-tight f g (suc a) n later (omega (arith, le a (le-refl a) (omega arith))) j far (omega arith))
-    (eq-or-lt-of-le l)
-  where
-    later : (i : ℕ) → suc a ≤ i → i < suc a + n → f i ≤ g i
-    later i far near = le i (omega arith) (omega arith)
-
-    rest : total f (upFrom (suc a) n) ≤ total g (upFrom (suc a) n)
-    rest = total-below f g (suc a) n later
-
--- sums of items that are the same
-pub total-range : (f g : ℕ → ℕ) (a n : ℕ) → ((j : ℕ) → a ≤ j → j < a + n → f j ≡ g j) → total f (upFrom a n) ≡ total g (upFrom a n)
-total-range f g a n same = total-same f g (upFrom a n) (λ j among. let b = upFrom-bounds j a n among in same j (b .0) (b .1))
 
 -- ---- rows
 

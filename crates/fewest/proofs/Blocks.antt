@@ -13,10 +13,10 @@ use Rattle.yard.specs.Words.{tally, count, first, upFrom}
 use Rattle.yard.proofs.general.Bools.{split}
 use Rattle.yard.proofs.general.Numbers.{le-or-lt}
 use Rattle.yard.proofs.general.First.{first-from, first-least, first-hit}
-use Rattle.yard.proofs.general.Lists.{total-values, tally-small}
+use Rattle.yard.proofs.general.Lists.{total-values, tally-small, total-below, total-tight, total-range}
 use Rattle.yard.proofs.yards.PlanYard.{total-map}
 use Rattle.choice.specs.Choice.{Rising, billOf, Cheapest}
-use Rattle.fewest.proofs.Best.{Asked, askedBy, Fits, spent, Best, total-below, total-tight, total-range}
+use Rattle.fewest.proofs.Best.{Asked, askedBy, Fits, spent, Best}
 
 -- what holds of all that the n numbers from a on are made into holds of each item
 made : (P : ℕ → Type 0) (k : ℕ → ℕ) (a n : ℕ) → ((j : ℕ) → a ≤ j → j < a + n → P (k j)) → (x : ℕ) → 0 < count x (map k (upFrom a n)) → P x

@@ -1,8 +1,8 @@
 -- Laws of the codes looked up: the costs are those of the allowed codes, and each number chosen is that of one of them.
-use mathlib.Core.Path.{_≡_, refl, ap, _∙_, subst}
+use mathlib.Core.Path.{_≡_, ap, _∙_, subst}
 use mathlib.Core.Bool.{Bool}
-use mathlib.Core.List.{List, [], _∷_, map}
-use Prim.Native.Nat.{ℕ, zero, suc, _+_, _-_, _^_, _≤_, _<_}
+use mathlib.Core.List.{List, map}
+use Prim.Native.Nat.{ℕ, suc, _+_, _-_, _^_, _≤_, _<_}
 use native.Mathlib.Nat.{sub-zero, lt-of-lt-of-le}
 use native.Mathlib.Omega.{arith}
 use lib.Count.{ones, ones-le}
@@ -19,13 +19,8 @@ use Rattle.codes.proofs.Steps.{F-le}
 use Rattle.scan.specs.Front.{Under, Front}
 use Rattle.scan.proofs.Front.{front-items}
 use Rattle.fewest.specs.Trains.{Costs, partOf, AllBlocked, AllChosen, Coded}
-use Rattle.fewest.proofs.Nights.{part-item}
 use Rattle.fewest.proofs.Weights.{weights-length}
-
-map-at : (g : ℕ → ℕ) (l : List ℕ) (i : ℕ) → i < length l → getD (map g l) i 0 ≡ g (getD l i 0)
-map-at g [] i m = absurd (omega arith)
-map-at g (x ∷ l) zero m = refl
-map-at g (x ∷ l) (suc i) m = map-at g l i (omega arith)
+use Rattle.yard.proofs.general.Lists.{map-at, part-item}
 
 -- ---- the costs of the allowed codes
 

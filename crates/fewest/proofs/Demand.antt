@@ -2,7 +2,7 @@
 use Prim.Native.Nat.{ℕ, suc, _≤_, _<_}
 use mathlib.Core.Path.{_≡_, refl, sym, ap, ap₂, _∙_, subst}
 use mathlib.Core.Logic.{⊎-elim, _↔_}
-use mathlib.Core.Bool.{Bool, true, false, cond, not}
+use mathlib.Core.Bool.{Bool, true, false, not}
 use mathlib.Core.List.{List, [], _∷_, _++_}
 use native.Mathlib.Nat.{le-antisymm}
 use native.Mathlib.Omega.{arith}
@@ -22,7 +22,7 @@ use Rattle.yard.proofs.general.Bools.{not-true, not-false}
 use Rattle.yard.proofs.general.First.{first-from, first-hit, first-none}
 use Rattle.yard.proofs.general.Fronts.{front-taken, front-left}
 use Rattle.yard.proofs.general.Numbers.{le-or-lt, compared}
-use Rattle.yard.proofs.calls.Verdict.{Passed, verdict-passed, verdict-done, written-accepted, written-refused}
+use Rattle.yard.proofs.calls.Verdict.{verdict-passed, verdict-done, written-accepted, written-refused, verdict-alike}
 use Rattle.yard.proofs.calls.Asks.{Sound, holds-append, accepted-exactly, refused-exactly, refused-at, told-alike}
 use Rattle.yard.proofs.calls.Rights.{buffer-right, room-right, overfull-full}
 use Rattle.yard.proofs.Demands.{opening-sound, first-asks, first-hold, call-wrong}
@@ -135,16 +135,6 @@ module _ (n : Night) (h : ℕ) (codes : List ℕ) (size : ℕ) where
             exactly .1
             (parted .1 (first-hold limits n h size .1 given, (sorted, tt)), overfull-full (planIn n h codes) a (overfull .holds), (overfull, cars)),
       )
-
--- tests that go on alike where those before are passed have one verdict
-verdict-alike : (ts us vs : List Answer) (d e : Answer) → (Passed ts → verdict us d ≡ verdict vs e) → verdict (ts ++ us) d ≡ verdict (ts ++ vs) e
-verdict-alike [] us vs d e same = same tt
-verdict-alike (t ∷ ts) us vs d e same = go (eqb (t .number) 0) refl (λ z. verdict-alike ts us vs d e (λ p. same (z, p)))
-  where
-    go : (b : Bool) → eqb (t .number) 0 ≡ b → (t .number ≡ 0 → verdict (ts ++ us) d ≡ verdict (ts ++ vs) e)
-        → cond b (verdict (ts ++ us) d) t ≡ cond b (verdict (ts ++ vs) e) t
-    go true z later = later (eqb-true (t .number) 0 z)
-    go false z later = refl
 
 -- codes that are the same wherever there are any give the same answer
 answer-same : (n : Night) (h : ℕ) (these those : List ℕ) (size : ℕ) → (DeriveGiven limits n h size → SortedIn n h → these ≡ those)

@@ -1,8 +1,8 @@
 -- Laws of the codes found: from the breaks before the cars to the codes with the fewest passes, and to what the plan answers.
 use mathlib.Core.Path.{_≡_, refl, sym, ap, _∙_, subst}
 use mathlib.Core.List.{List, [], _++_, map, map-map}
-use Prim.Native.Nat.{ℕ, zero, suc, _+_, _-_, _≤_, _<_}
-use native.Mathlib.Nat.{add-zero, add-suc, sub-zero}
+use Prim.Native.Nat.{ℕ, _+_, _-_, _≤_, _<_}
+use native.Mathlib.Nat.{sub-zero}
 use native.Mathlib.Omega.{arith}
 use lib.Count.{ones}
 use lib.ListN.{length, getD, take, length-append}
@@ -14,7 +14,6 @@ use Rattle.yard.specs.Codes.{F, allowedCodes, codeNumber}
 use Rattle.yard.specs.Derived.{stepsNeeded}
 use Rattle.yard.specs.Demands.{Listed}
 use Rattle.yard.specs.Answers.{says}
-use Rattle.yard.proofs.yards.Counting.{F-rising}
 use Rattle.yard.proofs.yards.Allowed.{F-allowed, needed-least}
 use Rattle.yard.proofs.yards.DerivedPlan.{length-by-car}
 use Rattle.yard.proofs.yards.PlanYard.{items}
@@ -25,11 +24,7 @@ use Rattle.fewest.specs.Trains.{AllBlocked, AllChosen, Coded, Found}
 use Rattle.fewest.proofs.Numbers.{codesOf, best-fewest}
 use Rattle.fewest.proofs.Steps.{sorted-exactly}
 use Rattle.fewest.proofs.Nights.{breaksBy, all-blocked, night-best}
-
--- more steps give no fewer usable codes
-F-more : (W h d : ℕ) → 0 < W → F W h ≤ F W (h + d)
-F-more W h zero pos = omega (arith, ap (F W) (add-zero h))
-F-more W h (suc d) pos = omega (arith, ap (F W) (add-suc h d), F-rising W (h + d) pos, F-more W h d pos)
+use Rattle.yard.proofs.yards.Counting.{F-more}
 
 module _ (n : Night) (h : ℕ) (f : Listed (n .lengths) (n .inbound)) (pos : 0 < n .tracks) where
   -- where the steps are enough, there are more allowed codes than breaks in a train

@@ -6,13 +6,13 @@ use mathlib.Core.List.{List, map, map-map}
 use Prim.Native.Nat.{ℕ, zero, suc, _+_, _-_, _≤_, _<_}
 use native.Mathlib.Omega.{arith}
 use lib.ListN.{length, getD, take, drop, length-drop, length-map}
-use lib.Seq.{getD-take, getD-drop, length-take-le, take-length, ext-getD}
+use lib.Seq.{length-take-le, take-length, ext-getD}
 use borrow.Author.Tests.{eq-eqb, ne-eqb}
 use Rattle.yard.specs.Limits.{limits}
 use Rattle.yard.specs.Words.{tally, count, upFrom}
 use Rattle.yard.specs.Night.{Night, cars, sum, itemOf, trainOf, pair, broken, breaks, breaksBefore, mostBreaks}
 use Rattle.yard.specs.Demands.{Listed}
-use Rattle.yard.proofs.general.Lists.{length-upFrom}
+use Rattle.yard.proofs.general.Lists.{length-upFrom, part-item}
 use Rattle.yard.proofs.yards.Trains.{itemOf-suc, train-of, train-end, breaksBefore-train}
 use Rattle.yard.proofs.yards.DerivedPlan.{map-item, length-by-car, breaks-mono, before-most, before-pair}
 use Rattle.scan.proofs.Running.{sum-next}
@@ -20,10 +20,6 @@ use Rattle.fewest.specs.Trains.{lastOf, weightsOf, Blocked, Chosen, part
 use Rattle.fewest.proofs.Best.{Best, askedBy, best-none, best-same, best-join}
 use Rattle.fewest.proofs.Blocks.{blocks-best}
 use Rattle.fewest.proofs.Weights.{weights-length, weights-item}
-
--- an item of a part of a list
-pub part-item : (l : List ℕ) (s k i : ℕ) → i < k → getD (take k (drop s l)) i 0 ≡ getD l (s + i) 0
-part-item l s k i m = getD-take k (drop s l) i 0 m ∙ getD-drop s l i 0
 
 module _ (n : Night) (f : Listed (n .lengths) (n .inbound)) where
   abbrev N : ℕ

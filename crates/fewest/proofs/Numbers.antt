@@ -17,7 +17,7 @@ use Rattle.yard.specs.Answers.{ruled}
 use Rattle.yard.specs.Demands.{Within, Listed, Sorts}
 use Rattle.yard.proofs.general.Bools.{split, clash, and-both}
 use Rattle.yard.proofs.general.Numbers.{le-or-lt, compared}
-use Rattle.yard.proofs.general.Lists.{count-keep, count-upFrom-in}
+use Rattle.yard.proofs.general.Lists.{count-keep, count-upFrom-in, total-range}
 use Rattle.yard.proofs.general.Order.{place-among}
 use Rattle.yard.proofs.yards.Formed.{place-holds}
 use Rattle.yard.proofs.yards.Allowed.{F-allowed}
@@ -26,7 +26,7 @@ use Rattle.yard.proofs.yards.Least.{car-allowed}
 use Rattle.yard.proofs.yards.PlanYard.{passes-whole, total-codes}
 use Rattle.yard.proofs.yards.DerivedPlan.{by-car, length-by-car, codeNumber-rising, codeNumber-mono, numbered-sorts}
 use Rattle.fewest.specs.Fewest.{planIn, Before, FewestPasses}
-use Rattle.fewest.proofs.Best.{Asked, askedBy, Fits, spent, Best, total-range}
+use Rattle.fewest.proofs.Best.{Asked, askedBy, Fits, spent, Best}
 
 ones-zero : ones 0 ≡ 0
 unfolding ones

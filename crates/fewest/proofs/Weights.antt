@@ -1,5 +1,5 @@
 -- Laws of the weights of a train's blocks: they are counted car by car, and with the costs they make a choice that can be had.
-use mathlib.Core.Path.{_≡_, refl, sym, ap, ap₂, _∙_, subst}
+use mathlib.Core.Path.{_≡_, sym, ap, _∙_, subst}
 use mathlib.Core.Logic.{⊎-elim}
 use mathlib.Core.List.{List, [], _∷_, _++_, map}
 use Prim.Native.Nat.{ℕ, suc, _+_, _-_, _*_, _≤_, _<_}
@@ -13,7 +13,7 @@ use borrow.Author.Tests.{eqb-true, eqb-false}
 use Rattle.yard.specs.Words.{tally, count, place, upFrom}
 use Rattle.yard.specs.Night.{sum}
 use Rattle.yard.proofs.general.Bools.{split}
-use Rattle.yard.proofs.general.Lists.{total-same, total-small, total-length, total-values, tally-small, count-append, length-upFrom}
+use Rattle.yard.proofs.general.Lists.{total-same, total-small, total-length, total-values, tally-small, count-append, length-upFrom, map-alike}
 use Rattle.yard.proofs.yards.Formed.{place-holds}
 use Rattle.yard.proofs.general.Order.{place-among}
 use Rattle.yard.proofs.yards.PlanYard.{total-map}
@@ -60,12 +60,6 @@ module _ (n : ℕ) (numbers table : List ℕ) (i : ℕ) (m : i < length numbers)
       (split (eqb b x))
 
 -- ---- as a list, and as a choice
-
--- a list made by two rules that agree on its items
-map-alike : (f g : ℕ → ℕ) (l : List ℕ) → ((i : ℕ) → i < length l → f (getD l i 0) ≡ g (getD l i 0)) → map f l ≡ map g l
-map-alike f g [] same = refl
-map-alike f g (x ∷ l) same =
-    ap₂ (λ (y : ℕ) (u : List ℕ). y ∷ u) (same 0 (omega arith)) (map-alike f g l (λ i m. same (suc i) (omega arith)))
 
 module _ (numbers : List ℕ) where
   pub weights-length : length (weightsOf numbers) ≡ suc (lastOf numbers)

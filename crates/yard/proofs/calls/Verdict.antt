@@ -115,3 +115,13 @@ verdict-nested (t ∷ ts) x = go (eqb (t .number) 0) refl (verdict-nested ts x)
         → verdict (cond b (verdict ts (says 0 0 0)) t ∷ []) x ≡ cond b (verdict ts x) t
     go true e later = later
     go false e later = ap (λ (b : Bool). cond b x t) e
+
+-- tests that go on alike where those before are passed have one verdict
+pub verdict-alike : (ts us vs : List Answer) (d e : Answer) → (Passed ts → verdict us d ≡ verdict vs e) → verdict (ts ++ us) d ≡ verdict (ts ++ vs) e
+verdict-alike [] us vs d e same = same tt
+verdict-alike (t ∷ ts) us vs d e same = go (eqb (t .number) 0) refl (λ z. verdict-alike ts us vs d e (λ p. same (z, p)))
+  where
+    go : (b : Bool) → eqb (t .number) 0 ≡ b → (t .number ≡ 0 → verdict (ts ++ us) d ≡ verdict (ts ++ vs) e)
+        → cond b (verdict (ts ++ us) d) t ≡ cond b (verdict (ts ++ vs) e) t
+    go true z later = later (eqb-true (t .number) 0 z)
+    go false z later = refl

@@ -1,13 +1,14 @@
 -- Laws of sums, counts and kept items over any list.
-use mathlib.Core.Path.{_≡_, refl, sym, ap, _∙_, subst}
+use mathlib.Core.Path.{_≡_, refl, sym, ap, ap₂, _∙_, subst}
 use mathlib.Core.Logic.{_⊎_, inl, inr, ⊎-elim}
 use mathlib.Core.Bool.{Bool, true, false, cond, not, _&&_}
 use mathlib.Core.List.{List, [], _∷_, _++_, map, append-nil, append-assoc}
 use Prim.Native.Nat.{ℕ, zero, suc, _+_, _*_, _≤_, _<_}
-use native.Mathlib.Nat.{eq-or-lt-of-le, zero-mul, one-mul, mul-one, add-mul}
+use native.Mathlib.Nat.{le-refl, eq-or-lt-of-le, zero-mul, one-mul, mul-one, add-mul}
 use native.Mathlib.Omega.{arith}
 use lib.Dec.{eqb}
-use lib.ListN.{length}
+use lib.ListN.{length, getD, take, drop}
+use lib.Seq.{getD-take, getD-drop}
 use borrow.Author.Tests.{eq-eqb, ne-eqb, eqb-true, eqb-false}
 use Rattle.yard.specs.Words.{tally, total, keep, count, upFrom}
 use Rattle.yard.proofs.general.Bools.{split, clash}
@@ -150,6 +151,60 @@ upFrom-bounds x a n h = (
   ⊎-elim (λ l. l) (λ l. absurd (omega (arith, count-upFrom-out x a n (inl l)))) (le-or-lt a x),
   ⊎-elim (λ l. absurd (omega (arith, count-upFrom-out x a n (inr l)))) (λ l. l) (le-or-lt (a + n) x),
 )
+
+-- ---- sums over the n numbers from a on
+
+pub total-below : (f g : ℕ → ℕ) (a n : ℕ) → ((j : ℕ) → a ≤ j → j < a + n → f j ≤ g j) → total f (upFrom a n) ≤ total g (upFrom a n)
+total-below f g a zero le = le-refl 0
+total-below f g a (suc n) le =
+    omega (arith, le a (le-refl a) (omega arith), total-below f g (suc a) n (λ j l m. le j (omega arith) (omega arith)))
+
+-- where no item is above its fellow and the sums are equal, the items are
+pub total-tight : (f g : ℕ → ℕ) (a n : ℕ) → ((j : ℕ) → a ≤ j → j < a + n → f j ≤ g j) → total g (upFrom a n) ≤ total f (upFrom a n)
+    → (j : ℕ) → a ≤ j → j < a + n → f j ≡ g j
+total-tight f g a zero le same j l m = absurd (omega arith)
+total-tight f g a (suc n) le same j l m =
+    ⊎-elim
+    (λ e. omega (arith, ap f e, ap g e, rest, le a (le-refl a) (omega arith)))
+    (λ far. total-tight f g (suc a) n later (omega (arith, le a (le-refl a) (omega arith))) j far (omega arith))
+    (eq-or-lt-of-le l)
+  where
+    later : (i : ℕ) → suc a ≤ i → i < suc a + n → f i ≤ g i
+    later i far near = le i (omega arith) (omega arith)
+
+    rest : total f (upFrom (suc a) n) ≤ total g (upFrom (suc a) n)
+    rest = total-below f g (suc a) n later
+
+-- sums of items that are the same
+pub total-range : (f g : ℕ → ℕ) (a n : ℕ) → ((j : ℕ) → a ≤ j → j < a + n → f j ≡ g j) → total f (upFrom a n) ≡ total g (upFrom a n)
+total-range f g a n same = total-same f g (upFrom a n) (λ j among. let b = upFrom-bounds j a n among in same j (b .0) (b .1))
+
+-- sums of items that agree but for one
+pub total-but : (f g : ℕ → ℕ) (a n k : ℕ) → a ≤ k → k < a + n → ((j : ℕ) → (j ≡ k → ⊥) → f j ≡ g j)
+    → total f (upFrom a n) + g k ≡ total g (upFrom a n) + f k
+total-but f g a zero k l m same = absurd (omega arith)
+total-but f g a (suc n) k l m same =
+    ⊎-elim
+    (λ e. omega (arith, ap f e, ap g e, total-range f g (suc a) n (λ j far near. same j (λ q. omega arith))))
+    (λ far. omega (arith, same a (λ q. omega arith), total-but f g (suc a) n k far (omega arith) same))
+    (eq-or-lt-of-le l)
+
+-- ---- lists made item by item, and parts of a list
+
+pub map-at : (g : ℕ → ℕ) (l : List ℕ) (i : ℕ) → i < length l → getD (map g l) i 0 ≡ g (getD l i 0)
+map-at g [] i m = absurd (omega arith)
+map-at g (x ∷ l) zero m = refl
+map-at g (x ∷ l) (suc i) m = map-at g l i (omega arith)
+
+-- a list made by two rules that agree on its items
+pub map-alike : (f g : ℕ → ℕ) (l : List ℕ) → ((i : ℕ) → i < length l → f (getD l i 0) ≡ g (getD l i 0)) → map f l ≡ map g l
+map-alike f g [] same = refl
+map-alike f g (x ∷ l) same =
+    ap₂ (λ (y : ℕ) (u : List ℕ). y ∷ u) (same 0 (omega arith)) (map-alike f g l (λ i m. same (suc i) (omega arith)))
+
+-- an item of a part of a list
+pub part-item : (l : List ℕ) (s k i : ℕ) → i < k → getD (take k (drop s l)) i 0 ≡ getD l (s + i) 0
+part-item l s k i m = getD-take k (drop s l) i 0 m ∙ getD-drop s l i 0
 
 -- ---- a sum by items is a sum by values
 

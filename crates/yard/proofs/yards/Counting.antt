@@ -116,6 +116,11 @@ pub F-rising : (W h : ℕ) → 0 < W → F W h < F W (suc h)
 F-rising zero h pos = absurd (omega arith)
 F-rising (suc W) h pos = omega (arith, a-pos W h)
 
+-- more steps give no fewer usable codes
+pub F-more : (W h d : ℕ) → 0 < W → F W h ≤ F W (h + d)
+F-more W h zero pos = omega (arith, ap (F W) (add-zero h))
+F-more W h (suc d) pos = omega (arith, ap (F W) (add-suc h d), F-rising W (h + d) pos, F-more W h d pos)
+
 -- ---- the gap rule with a step more
 
 module _ (W : ℕ) (pos : 0 < W) where
