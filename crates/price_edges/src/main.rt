@@ -43,13 +43,13 @@ fn refusals() {
 
 fn order() {
     edge(b"both timings, pull first", 2, 3, 0.1, 0.1);
-    edge(b"nine steps before the rest", 9, 4609, 0.1, 0.1);
-    edge(b"4609 passes before the timings", 8, 4609, 0.1, 0.1);
+    edge(b"17 steps before the rest", 17, 69633, 0.1, 0.1);
+    edge(b"69633 passes before the timings", 16, 69633, 0.1, 0.1);
 }
 
 fn prices() {
     edge(b"2 at 1.5 and 3 at 0.25: 3.75", 2, 3, 1.5, 0.25);
-    edge(b"both zero: 0", 8, 4608, 0.0, 0.0);
+    edge(b"both zero: 0", 16, 69632, 0.0, 0.0);
     edge(b"no steps, no passes: 0", 0, 0, 4096.0, 4096.0);
     edge(b"1 at 1/16: 1/16", 1, 0, 0.0625, 4096.0);
     edge(
@@ -59,7 +59,8 @@ fn prices() {
         0.0625,
         4096.0,
     );
-    edge(b"the largest: 18907136", 8, 4608, 4096.0, 4096.0);
+    edge(b"document 01's largest: 18907136", 8, 4608, 4096.0, 4096.0);
+    edge(b"the largest: 285278208", 16, 69632, 4096.0, 4096.0);
 }
 
 fn main() {

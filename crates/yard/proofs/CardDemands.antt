@@ -1,21 +1,23 @@
 -- Demands 1 and 2 for the card's calls: what reader and writer accept, and every refusal with its number, A and B.
 use Prim.Native.Nat.{ℕ, suc, _≤_, _<_}
 use mathlib.Core.Path.{_≡_, refl}
-use mathlib.Core.Logic.{_⊎_, _↔_, Iff·trans}
+use mathlib.Core.Logic.{_⊎_, inl, inr, ⊎-elim, _↔_, Iff·trans}
 use mathlib.Core.Bool.{true}
-use mathlib.Core.List.{List, [], _∷_, _++_}
+use mathlib.Core.List.{List, [], _++_}
 use native.Mathlib.Omega.{arith}
 use lib.Dec.{leb, eqb}
 use lib.ListN.{length}
 use borrow.Author.Tests.{eqb-true, eq-eqb}
-use Rattle.yard.specs.Limits.{Limits}
+use Rattle.yard.specs.declared.Limits.{Limits}
 use Rattle.yard.specs.declared.Head.{Head}
 use Rattle.yard.specs.Night.{Night, Plan}
 use Rattle.yard.specs.Demands.{ListedWrong, InboundWrong}
 use Rattle.yard.specs.Answers.{says, Ask, AllHold, FirstFails}
 use Rattle.yard.specs.Calls.{listAsks}
 use Rattle.yard.specs.Card.{card, headLength, headOn, cardPlan, rightLength, endsRight, writerOwn, writerAsks, writerAnswer, Writable}
-use Rattle.yard.specs.Card.{cardLength, bytesAsk, editionAsk, endAsk, headAsks, sizeAsks, readerAsks, readerVerdict, Readable}
+use Rattle.yard.specs.Card.{cardLength, known, limitsOf, editionOf, bytesAsk, knownAsk, endAsk, editionAsk, headAsks, sizeAsks, lastAsks}
+use Rattle.yard.specs.Card.{readerAsks, readerVerdict, Readable}
+use Rattle.yard.proofs.general.Bools.{or-either}
 use Rattle.yard.proofs.calls.Asks.{Right, Sound, holds-append, sound-append, fails-past, accepted-exactly, refused-exactly, plain-right}
 use Rattle.yard.proofs.calls.Rights.{at-most-right, length-right, buffer-right, code-right}
 use Rattle.yard.proofs.Demands.{counts-sound, counts-hold, lists-sound, lists-hold, lists-wrong, opening-sound, opening-holds, call-wrong}
@@ -62,18 +64,28 @@ module _ (L : Limits) (p : Plan) (size : ℕ) where
 bytes-right : (needed size : ℕ) → Right (bytesAsk needed size)
 bytes-right needed size = at-most-right 9 needed needed size
 
-edition-right : (edition : ℕ) → Right (editionAsk edition)
-edition-right edition = plain-right 10 (eqb edition 1) edition (edition ≡ 1) (eqb-true edition 1, eq-eqb edition 1)
+known-right : (edition : ℕ) → Right (knownAsk edition)
+known-right edition =
+    plain-right 10 (known edition) edition ((edition ≡ 1) ⊎ (edition ≡ 2)) (
+      λ e. ⊎-elim (λ first. inl (eqb-true edition 1 first)) (λ second. inr (eqb-true edition 2 second)) (or-either (eqb edition 1) (eqb edition 2) e),
+      λ one. ⊎-elim (λ e. rw e) (λ e. rw e) one,
+    )
 
 end-right : (bytes : List ℕ) → Right (endAsk bytes)
 end-right bytes = plain-right 11 (endsRight bytes) (rightLength bytes) (endsRight bytes ≡ true) (λ e. e, λ e. e)
 
-head-sound : (L : Limits) (size : ℕ) (h : Head) → Sound (headAsks L size h)
-head-sound L size h = (
+edition-right : (bytes : List ℕ) → Right (editionAsk bytes)
+edition-right bytes =
+    let own = editionOf (cardPlan bytes) in
+    let on = headOn bytes .edition in
+    plain-right 16 (eqb own on) 0 (own ≡ on) (eqb-true own on, eq-eqb own on)
+
+head-sound : (size : ℕ) (h : Head) → Sound (headAsks size h)
+head-sound size h = (
   bytes-right 1 size,
   λ _. (
-    edition-right (h .edition),
-    λ _. (bytes-right (headLength h) size, λ _. counts-sound L (h .cars) (h .trains) (h .tracks) (h .room) (h .steps)),
+    known-right (h .edition),
+    λ _. (bytes-right (headLength h) size, λ _. counts-sound (limitsOf (h .edition)) (h .cars) (h .trains) (h .tracks) (h .room) (h .steps)),
   ),
 )
 
@@ -83,7 +95,7 @@ sizes-sound size h a b c = (
   λ _. (buffer-right 1 (h .trains) a, λ _. (buffer-right 2 (h .cars) b, λ _. (buffer-right 3 (h .cars) c, λ _. tt))),
 )
 
-module _ (L : Limits) (bytes : List ℕ) (lengthsSize inboundSize codesSize : ℕ) where
+module _ (bytes : List ℕ) (lengthsSize inboundSize codesSize : ℕ) where
   abbrev h : Head
   h = headOn bytes
 
@@ -92,27 +104,27 @@ module _ (L : Limits) (bytes : List ℕ) (lengthsSize inboundSize codesSize : �
 
   -- the pieces of the reader's list
   abbrev first-asks : List Ask
-  first-asks = headAsks L (length bytes) h
+  first-asks = headAsks (length bytes) h
 
   abbrev sizes : List Ask
   sizes = sizeAsks (length bytes) h lengthsSize inboundSize codesSize
 
   abbrev last-asks : List Ask
-  last-asks = listAsks night ++ (endAsk bytes ∷ [])
+  last-asks = listAsks night ++ lastAsks bytes
 
-  reader-sound : Sound (readerAsks L bytes lengthsSize inboundSize codesSize)
+  reader-sound : Sound (readerAsks bytes lengthsSize inboundSize codesSize)
   reader-sound =
-      sound-append first-asks (sizes ++ last-asks) (head-sound L (length bytes) h)
+      sound-append first-asks (sizes ++ last-asks) (head-sound (length bytes) h)
       (λ _.
       sound-append sizes last-asks (sizes-sound (length bytes) h lengthsSize inboundSize codesSize)
-      (λ _. sound-append (listAsks night) (endAsk bytes ∷ []) (lists-sound night) (λ _. (end-right bytes, λ _. tt))))
+      (λ _. sound-append (listAsks night) (lastAsks bytes) (lists-sound night) (λ _. (end-right bytes, λ _. (edition-right bytes, λ _. tt)))))
 
-  reader-holds : AllHold (readerAsks L bytes lengthsSize inboundSize codesSize) ↔ Readable L bytes lengthsSize inboundSize codesSize
+  reader-holds : AllHold (readerAsks bytes lengthsSize inboundSize codesSize) ↔ Readable bytes lengthsSize inboundSize codesSize
   reader-holds =
-      let counted = counts-hold L (h .cars) (h .trains) (h .tracks) (h .room) (h .steps) in
+      let counted = counts-hold (limitsOf (h .edition)) (h .cars) (h .trains) (h .tracks) (h .room) (h .steps) in
       let headed = holds-append first-asks (sizes ++ last-asks) in
       let sized = holds-append sizes last-asks in
-      let listed = holds-append (listAsks night) (endAsk bytes ∷ []) in (
+      let listed = holds-append (listAsks night) (lastAsks bytes) in (
         λ all.
             let (front, more) = headed .0 all in
             let (some, front) = front in
@@ -123,6 +135,7 @@ module _ (L : Limits) (bytes : List ℕ) (lengthsSize inboundSize codesSize : �
             let (lengths, middle) = middle in
             let (inbound, middle) = middle in
             let (lists, ends) = listed .0 more in
+            let right = ends .1 in
             record {
               some = some;
               edition = edition;
@@ -134,32 +147,33 @@ module _ (L : Limits) (bytes : List ℕ) (lengthsSize inboundSize codesSize : �
               codes = middle .0;
               lists = lists-hold night .0 lists;
               ends = ends .0;
+              right = right .0;
             },
         λ r.
-            let last = listed .1 (lists-hold night .1 (r .lists), (r .ends, tt)) in
+            let last = listed .1 (lists-hold night .1 (r .lists), (r .ends, (r .right, tt))) in
             let middle : AllHold sizes = (r .whole, (r .lengths, (r .inbound, (r .codes, tt)))) in
             headed .1 ((r .some, (r .edition, (r .head, counted .1 (r .counts)))), sized .1 (middle, last)),
       )
 
-  pub reader-accepts-exactly : (readerVerdict L bytes lengthsSize inboundSize codesSize .number ≡ 0) ↔ Readable L bytes lengthsSize inboundSize codesSize
+  pub reader-accepts-exactly : (readerVerdict bytes lengthsSize inboundSize codesSize .number ≡ 0) ↔ Readable bytes lengthsSize inboundSize codesSize
   unfolding readerVerdict
   reader-accepts-exactly =
-      let exactly = accepted-exactly (says 0 0 0) refl (readerAsks L bytes lengthsSize inboundSize codesSize) reader-sound in
+      let exactly = accepted-exactly (says 0 0 0) refl (readerAsks bytes lengthsSize inboundSize codesSize) reader-sound in
       (λ e. reader-holds .0 (exactly .0 e), λ r. exactly .1 (reader-holds .1 r))
 
   pub reader-refuses-exactly : (k a b : ℕ) → 0 < k
-      → (readerVerdict L bytes lengthsSize inboundSize codesSize ≡ says k a b) ↔ FirstFails k a b (readerAsks L bytes lengthsSize inboundSize codesSize)
+      → (readerVerdict bytes lengthsSize inboundSize codesSize ≡ says k a b) ↔ FirstFails k a b (readerAsks bytes lengthsSize inboundSize codesSize)
   unfolding readerVerdict
-  reader-refuses-exactly k a b pos = refused-exactly (says 0 0 0) refl k a b pos (readerAsks L bytes lengthsSize inboundSize codesSize) reader-sound
+  reader-refuses-exactly k a b pos = refused-exactly (says 0 0 0) refl k a b pos (readerAsks bytes lengthsSize inboundSize codesSize) reader-sound
 
   -- 3 comes exactly if head, size and buffers are right and of the card's lists the inbound one is the first at fault
   pub reader-listing-exactly : (a b : ℕ)
-      → (readerVerdict L bytes lengthsSize inboundSize codesSize ≡ says 3 a b) ↔
+      → (readerVerdict bytes lengthsSize inboundSize codesSize ≡ says 3 a b) ↔
       (AllHold first-asks × AllHold sizes × ListedWrong (night .lengths) (night .inbound) a b)
   reader-listing-exactly a b =
       let headed = fails-past 3 a b first-asks (sizes ++ last-asks) (omega arith) in
       let sized = fails-past 3 a b sizes last-asks (omega arith) in
-      let listed = lists-wrong night (endAsk bytes ∷ []) (omega arith) a b in
+      let listed = lists-wrong night (lastAsks bytes) (omega arith) a b in
       Iff·trans (reader-refuses-exactly 3 a b (omega arith)) (
         λ f.
             let (front, f) = headed .0 f in

@@ -7,7 +7,7 @@ use mathlib.Core.List.{List, [], _∷_, _++_}
 use native.Mathlib.Omega.{arith}
 use lib.ListN.{length}
 use Rattle.yard.specs.declared.Answer.{Answer}
-use Rattle.yard.specs.Limits.{Limits}
+use Rattle.yard.specs.declared.Limits.{Limits}
 use Rattle.yard.specs.Night.{Night, Plan, planOf}
 use Rattle.yard.specs.Replay.{yardAt, passes, fullestPull, pulled, pullSize, built, early, lowestEarly, firstEarly, firstOverfull, inOrder}
 use Rattle.yard.specs.Derived.{stepsNeeded, derivedPlan}

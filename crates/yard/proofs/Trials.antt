@@ -6,7 +6,8 @@ use Rattle.yard.specs.Replay.{yardAt, passes, pulled, pullSize, fullestP
 use Rattle.yard.specs.Codes.{usable, allowed, allowedCodes, codeNumber, fewestSteps, fewestTracks}
 use Rattle.yard.specs.Derived.{stepsNeeded, derivedCodes, derivedPlan}
 use Rattle.yard.specs.Calls.{deriveAnswer, checkAnswer, replayAnswer}
-use Rattle.yard.specs.Card.{layout, fields, card}
+use Rattle.yard.specs.Card.{layout, limitsOf, editionFor, headLength, cardLength, fields, card, headOn, listsOn, cardPlan, rightLength}
+use Rattle.yard.specs.Card.{endsRight, readerVerdict}
 use Rattle.yard.specs.Trials.{trials, tables, requests, agree}
 
 pub trials-agree : agree trials ≡ true
@@ -15,11 +16,12 @@ unfolding trials deriveAnswer checkAnswer stepsNeeded derivedCodes derivedPlan u
 trials-agree = refl
 
 pub tables-agree : agree tables ≡ true
-unfolding tables layout card fields derivedPlan stepsNeeded derivedCodes usable allowed allowedCodes codeNumber fewestSteps fewestTracks yardAt
+unfolding tables layout editionFor card fields derivedPlan stepsNeeded derivedCodes usable allowed allowedCodes codeNumber fewestSteps fewestTracks yardAt
     pulled early lowestEarly firstEarly
 tables-agree = refl
 
 pub requests-agree : agree requests ≡ true
 unfolding requests deriveAnswer checkAnswer replayAnswer stepsNeeded derivedCodes derivedPlan usable allowed allowedCodes codeNumber fewestSteps yardAt passes
-    pulled pullSize fullestPull early lowestEarly firstEarly firstOverfull built inOrder
+    pulled pullSize fullestPull early lowestEarly firstEarly firstOverfull built inOrder fewestTracks layout limitsOf editionFor headLength cardLength
+    fields card headOn listsOn cardPlan rightLength endsRight readerVerdict
 requests-agree = refl

@@ -3,3 +3,4 @@ pub mod Verdict
 pub mod Asks
 pub mod Tests
 pub mod Rights
+pub mod Larger

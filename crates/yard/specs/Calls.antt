@@ -4,7 +4,8 @@ use mathlib.Core.Path.{_≡_}
 use mathlib.Core.List.{List, [], _∷_, _++_, map}
 use lib.ListN.{length}
 use Rattle.yard.specs.declared.Answer.{Answer}
-use Rattle.yard.specs.Limits.{Limits, limits}
+use Rattle.yard.specs.declared.Limits.{Limits}
+use Rattle.yard.specs.Limits.{limits}
 use Rattle.yard.specs.Night.{Night, Plan, cars}
 use Rattle.yard.specs.Replay.{passes, fullestPull, trackOf, placeOf}
 use Rattle.yard.specs.Derived.{stepsNeeded, derivedCodes, derivedPlan}

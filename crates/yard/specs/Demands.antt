@@ -7,7 +7,7 @@ use mathlib.Core.Bool.{true, false}
 use mathlib.Core.List.{List, []}
 use lib.ListN.{length}
 use Rattle.yard.specs.Words.{count}
-use Rattle.yard.specs.Limits.{Limits}
+use Rattle.yard.specs.declared.Limits.{Limits}
 use Rattle.yard.specs.Night.{Night, Plan, cars, sum, itemOf, pair, broken, carsOf}
 use Rattle.yard.specs.Replay.{bit, codeOf, yardAt, pulled, pullSize, built}
 

@@ -9,7 +9,8 @@ use lib.Ieee.{Float, nan, inf, fin, binary64, round, up, down}
 use Rattle.yard.specs.declared.Answer.{Answer}
 use Rattle.yard.specs.declared.Timings.{Timings}
 use Rattle.yard.specs.declared.PriceAnswer.{PriceAnswer}
-use Rattle.yard.specs.Limits.{Limits, limits}
+use Rattle.yard.specs.declared.Limits.{Limits}
+use Rattle.yard.specs.Limits.{limits}
 use Rattle.yard.specs.Demands.{Within}
 use Rattle.yard.specs.Answers.{says, verdict, Ask, answers, plain, countAsk}
 

@@ -13,7 +13,7 @@ use Rattle.yard.specs.Codes.{F, fewestTracks}
 use Rattle.yard.specs.Derived.{derivedCodes, derivedPlan}
 use Rattle.yard.specs.Answers.{written}
 use Rattle.yard.specs.Calls.{deriveAnswer, checkAnswer, replayAnswer}
-use Rattle.yard.specs.Card.{card}
+use Rattle.yard.specs.Card.{editionOf, card, readerVerdict}
 
 -- a trial's case, what the meaning says, and what the document says
 pub record Trial : Type 0 where
@@ -109,11 +109,24 @@ one = nightOf (1 ∷ []) (1 ∷ []) false 2 512
 two : Night
 two = nightOf (2 ∷ []) (1 ∷ 2 ∷ []) false 2 512
 
+-- night N with room for 3 on cards of edition 2: closed, with its derived plan, and open, which belongs on edition 1
+closedCard : List ℕ
+closedCard = 40 ∷ 196 ∷ 0 ∷ 48 ∷ 3 ∷ 0 ∷ 64 ∷ 12 ∷ 0 ∷ 48 ∷ 3 ∷ 0 ∷ 4 ∷ 0 ∷ 160 ∷ 2 ∷ 0 ∷ 33 ∷ 41 ∷ 58 ∷ []
+
+openCard : List ℕ
+openCard = 32 ∷ 132 ∷ 0 ∷ 48 ∷ 3 ∷ 0 ∷ 64 ∷ 12 ∷ 0 ∷ 48 ∷ 3 ∷ 0 ∷ 4 ∷ 0 ∷ 160 ∷ 2 ∷ 0 ∷ 32 ∷ 45 ∷ 128 ∷ []
+
+-- the reader's verdict, with room for six cars in its buffers
+reads : List ℕ → List ℕ
+unfolding told
+reads bytes = told (readerVerdict bytes 6 6 6)
+
 -- nights of the requests of document 02, by their number. 101: a car listed twice, thrice, and a number out of range, also twice.
 -- 103: night N closed, one car closed, and one that needs nine steps; a zero code, 7 before it and it before 8, and the same codes in
--- an open night
+-- an open night. 108: nights that need nine steps, and one that needs seventeen; F on two tracks up to sixteen steps; the fewest tracks of codes
+-- above 255; the edition of plans within edition 1's limits and just outside; cards of edition 2
 unfoldable pub requests : List Trial
-unfolding nightN reversed closed plan told derives codes checks replays trial one two
+unfolding nightN reversed closed plan told derives codes checks replays reads trial one two closedCard openCard
 requests =
     trial 101 (derives (nightOf (5 ∷ []) (2 ∷ 1 ∷ 3 ∷ 1 ∷ 3 ∷ []) false 2 512) 8) (3 ∷ 4 ∷ 2 ∷ []) ∷
     trial 101 (derives (nightOf (3 ∷ []) (2 ∷ 2 ∷ 2 ∷ []) false 2 512) 8) (3 ∷ 2 ∷ 1 ∷ []) ∷
@@ -131,6 +144,17 @@ requests =
     trial 103 (checks (plan (closed two) 1 (0 ∷ 2 ∷ []))) (7 ∷ 2 ∷ 0 ∷ []) ∷
     trial 103 (checks (plan (closed two) 3 (4 ∷ 0 ∷ []))) (14 ∷ 2 ∷ 0 ∷ []) ∷
     trial 103 (checks (plan two 3 (4 ∷ 0 ∷ []))) (8 ∷ 1 ∷ 0 ∷ []) ∷
+    trial 108 (derives (reversed 10 1) 16) (0 ∷ 9 ∷ 55 ∷ []) ∷
+    trial 108 (derives (closed (reversed 9 1)) 16) (0 ∷ 9 ∷ 54 ∷ []) ∷
+    trial 108 (derives (reversed 18 1) 16) (5 ∷ 17 ∷ 0 ∷ []) ∷
+    trial 108 (map (F 2) (upFrom 8 9)) (88 ∷ 143 ∷ 232 ∷ 376 ∷ 609 ∷ 986 ∷ 1596 ∷ 2583 ∷ 4180 ∷ []) ∷
+    trial 108 (map (fewestTracks 16) (128 ∷ 255 ∷ 256 ∷ 257 ∷ 32768 ∷ 65535 ∷ [])) (8 ∷ 1 ∷ 9 ∷ 8 ∷ 16 ∷ 1 ∷ []) ∷
+    trial 108 (map (λ C. editionOf (plan (nightN 8 C) 8 [])) (512 ∷ 513 ∷ [])) (1 ∷ 2 ∷ []) ∷
+    trial 108 (editionOf (plan (nightN 9 3) 2 []) ∷ editionOf (plan (nightN 8 3) 9 []) ∷ editionOf (plan (closed (nightN 2 3)) 2 []) ∷ []) (2 ∷ 2 ∷ 2 ∷ []) ∷
+    trial 108 (card (derivedPlan (closed (nightN 2 3)))) closedCard ∷
+    trial 108 (reads closedCard) (0 ∷ 0 ∷ 0 ∷ []) ∷
+    trial 108 (reads (take 6 closedCard)) (10 ∷ 7 ∷ 0 ∷ []) ∷
+    trial 108 (reads openCard) (17 ∷ 0 ∷ 0 ∷ []) ∷
     []
 
 -- all of them agree

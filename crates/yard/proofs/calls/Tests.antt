@@ -10,7 +10,7 @@ use lib.Dec.{leb, ltb, eqb}
 use lib.ListN.{length, getD, take, List·getD-eq-default}
 use lib.Pow.{pow-pos}
 use borrow.Author.Tests.{leb-true, leb-false, le-leb, lt-leb, ltb-true, lt-ltb, eqb-true, eq-eqb}
-use Rattle.yard.specs.Limits.{Limits}
+use Rattle.yard.specs.declared.Limits.{Limits}
 use Rattle.yard.specs.Words.{first, listed}
 use Rattle.yard.specs.Night.{sum, itemOf}
 use Rattle.yard.specs.Answers.{says, test, countTest, listTest, sumTest, badPlace, firstBad, firstListing, inboundTest, wideCode, codeTest}

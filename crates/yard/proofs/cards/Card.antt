@@ -1,25 +1,29 @@
 -- Laws of the night card: its length, and that plan and card give back one another. They hold for the widths of any layout.
-use Prim.Native.Nat.{ℕ, zero, suc, _+_, _-_, _*_, _^_, _≤_}
-use mathlib.Core.Path.{_≡_, refl, sym, ap, _∙_}
+use Prim.Native.Nat.{ℕ, zero, suc, _+_, _-_, _*_, _^_, _≤_, _<_}
+use mathlib.Core.Path.{_≡_, refl, sym, ap, subst, _∙_}
 use mathlib.Core.Bool.{Bool, true, false}
 use mathlib.Core.List.{List, [], _∷_, _++_}
-use native.Mathlib.Nat.{mul-le-mul}
+use native.Mathlib.Nat.{mul-le-mul, le-refl, lt-of-lt-of-le}
 use native.Mathlib.Omega.{arith}
 use lib.Dec.{eqb}
 use lib.ListN.{length, take, drop, replicate, length-append, length-drop, length-replicate, take-append-drop}
+use lib.Pow.{pow-mono}
 use lib.Seq.{take-append-seam, drop-append-seam, drop-at, length-take-le}
 use borrow.Author.Tests.{eqb-true, eq-eqb}
+use Rattle.yard.specs.declared.Limits.{Limits}
 use Rattle.yard.specs.declared.Head.{Head}
-use Rattle.yard.specs.Words.{every}
-use Rattle.yard.specs.Night.{Plan, planOf, sum}
+use Rattle.yard.specs.Words.{tally, every}
+use Rattle.yard.specs.Limits.{firstLimits}
+use Rattle.yard.specs.Night.{Plan, planOf, closedBy, sum}
 use Rattle.yard.specs.Bits.{Bytes, fromBits, packed, unpacked, wholeBytes, toBytes, bitsOf}
 use Rattle.yard.specs.Card.{layout, headWidths, headFields, headFrom, listWidths, widths, headLength, cardLength, headOf, fields, card, headOn}
-use Rattle.yard.specs.Card.{listsOn, cardPlan, rightLength, endsRight}
+use Rattle.yard.specs.Card.{limitsOf, editionFor, editionOf, HeadWithin, listsOn, cardPlan, rightLength, endsRight}
 use Rattle.yard.proofs.general.Bools.{and-left, and-right, and-both}
 use Rattle.yard.proofs.general.Lists.{total-append}
 use Rattle.yard.proofs.cards.Bits.{Below, below-drop, Fits, fits-append, fits-run, fits-below, fits-split, sum-replicate, length-packed}
 use Rattle.yard.proofs.cards.Bits.{length-unpacked, unpacked-append, packed-below, unpacked-packed, packed-unpacked-enough, unpacked-fits}
 use Rattle.yard.proofs.cards.Bits.{length-bitsOf, length-toBytes, bitsOf-below, bitsOf-toBytes, toBytes-bitsOf, toBytes-below, toBytes-zeros}
+use Rattle.yard.proofs.cards.Editions.{mostBits, edition-suits, first-bits, mark-back, mark-again, edition-first}
 
 -- The bits of a card: its head, then as many as its lists have.
 abbrev pub headBits : Head → ℕ
@@ -34,7 +38,7 @@ widths-sum h = simp (total-append, sum-replicate) (omega arith)
 lists-length : (h : Head) → length (listWidths h) ≡ h .trains + h .cars + h .cars
 lists-length h = simp (length-append, length-replicate) (omega arith)
 
--- Its length: enough for the head, and at most 1,237 bytes within the limits.
+-- Its length: enough for the head, and within the limits at most 15,271 bytes, or 1,237 where it is of edition 1.
 fields-length : (p : Plan) → length (p .codes) ≡ length (p .night .inbound) → length (fields p) ≡ length (widths (headOf p))
 unfolding fields
 fields-length p e = simp (length-append, length-replicate) (omega arith)
@@ -52,21 +56,31 @@ pub headLength-some : (h : Head) → 1 ≤ headLength h
 unfolding headLength
 headLength-some h = omega arith
 
-pub card-longest : (p : Plan)
-    → length (p .codes) ≡ length (p .night .inbound)
-    → p .steps ≤ 8
-    → length (p .night .inbound) ≤ 512
-    → length (p .night .lengths) ≤ 64
-    → length (card p) ≤ 1237
-unfolding cardLength layout
-card-longest p e h n m =
-    omega (arith, card-length p e, widths-sum (headOf p), mul-le-mul n h)
+-- within limits, a head announces no more bits than the most that its layout and they give
+pub widths-most : (L : Limits) (h : Head) → HeadWithin L h → sum (widths h) ≤ mostBits (layout (h .edition)) L
+widths-most L h w =
+    let number = layout (h .edition) .number in
+    omega (arith, widths-sum h, mul-le-mul (w .trains .1) (le-refl number), mul-le-mul (w .cars .1) (le-refl number), mul-le-mul (w .cars .1) (w .steps .1))
+
+pub widths-longest : (h : Head) → HeadWithin (limitsOf (h .edition)) h → sum (widths h) ≤ 15271 * 8
+widths-longest h w = omega (arith, widths-most (limitsOf (h .edition)) h w, edition-suits (h .edition) .longest)
+
+pub head-longest : (h : Head) → HeadWithin (limitsOf (h .edition)) h → cardLength h ≤ 15271
+unfolding cardLength
+head-longest h w = omega (arith, widths-longest h w)
+
+pub first-longest : (h : Head) → h .edition ≡ 1 → HeadWithin (limitsOf (h .edition)) h → cardLength h ≤ 1237
+unfolding cardLength
+first-longest h e w =
+    let few : mostBits (layout (h .edition)) (limitsOf (h .edition)) ≤ 1237 * 8 =
+    subst (λ (k : ℕ). mostBits (layout k) (limitsOf k) ≤ 1237 * 8) (sym e) first-bits in
+    omega (arith, widths-most (limitsOf (h .edition)) h w, few)
 
 -- The plans that a card has room for: each number fits its field, and each car has a code.
 pub record Fitting (p : Plan) : Type 0 where
-  pub head : Fits (headWidths (layout 1)) (headFields (headOf p))
-  pub lengths : Below (2 ^ layout 1 .number) (p .night .lengths)
-  pub inbound : Below (2 ^ layout 1 .number) (p .night .inbound)
+  pub head : Fits (headWidths (layout (editionOf p))) (headFields (headOf p))
+  pub lengths : Below (2 ^ layout (editionOf p) .number) (p .night .lengths)
+  pub inbound : Below (2 ^ layout (editionOf p) .number) (p .night .inbound)
   pub codes : Below (2 ^ p .steps) (p .codes)
   pub coded : length (p .codes) ≡ length (p .night .inbound)
 
@@ -74,7 +88,7 @@ fields-fit : (p : Plan) → Fitting p → Fits (widths (headOf p)) (fields p)
 unfolding fields
 fields-fit p f =
     let h = headOf p in
-    let w = layout 1 .number in
+    let w = layout (editionOf p) .number in
     let codes = fits-run (h .cars) (h .steps) (p .codes) (f .coded) (f .codes) in
     let inbound = fits-run (h .cars) w (p .night .inbound) refl (f .inbound) in
     let lengths = fits-run (h .trains) w (p .night .lengths) refl (f .lengths) in
@@ -83,7 +97,7 @@ fields-fit p f =
     fits-append (replicate (h .trains) w) (p .night .lengths) (replicate (h .cars) w ++ replicate (h .cars) (h .steps)) (p .night .inbound ++ p .codes)
     lengths
     cars in
-    fits-append (headWidths (layout 1)) (headFields h) (listWidths h) (p .night .lengths ++ (p .night .inbound ++ p .codes)) (f .head) lists
+    fits-append (headWidths (layout (editionOf p))) (headFields h) (listWidths h) (p .night .lengths ++ (p .night .inbound ++ p .codes)) (f .head) lists
 
 -- Plan, card, plan: the fields are read back whole, with the spare zero bits behind them.
 spare : Plan → ℕ
@@ -106,26 +120,25 @@ card-fields p f =
 pub card-head : (p : Plan) → Fitting p → headOn (card p) ≡ headOf p
 unfolding headOn fields
 card-head p f =
-    let edition : fromBits 4 (bitsOf (card p)) ≡ 1 = ap (λ xs. headFrom xs .edition) (card-fields p f) in
+    let edition : fromBits 4 (bitsOf (card p)) ≡ editionOf p = ap (λ xs. headFrom xs .edition) (card-fields p f) in
     ap (λ e. headFrom (unpacked (headWidths (layout e)) (bitsOf (card p)))) edition ∙ ap headFrom (card-fields p f)
 
 card-lists : (p : Plan) → Fitting p → listsOn (card p) ≡ p .night .lengths ++ (p .night .inbound ++ p .codes)
 unfolding listsOn fields
 card-lists p f =
     let h = headOf p in
-    let apart = unpacked-append (headWidths (layout 1)) (listWidths h) (bitsOf (card p)) in
-    ap (λ h. unpacked (listWidths h) (drop (headBits h) (bitsOf (card p)))) (card-head p f) ∙ ap (drop 6) (sym apart ∙ card-fields p f)
+    let apart = unpacked-append (headWidths (layout (editionOf p))) (listWidths h) (bitsOf (card p)) in
+    ap (λ h. unpacked (listWidths h) (drop (headBits h) (bitsOf (card p)))) (card-head p f) ∙ ap (drop 7) (sym apart ∙ card-fields p f)
 
-pub cardPlan-card : (p : Plan) → Fitting p → p .night .closed ≡ false → cardPlan (card p) ≡ p
+pub cardPlan-card : (p : Plan) → Fitting p → cardPlan (card p) ≡ p
 unfolding cardPlan
-cardPlan-card p f free =
+cardPlan-card p f =
     rw (card-head p f, card-lists p f, take-append-seam, drop-append-seam, take-append-seam, drop-append-seam)
-    (ap (λ (b : Bool). planOf (p .night .lengths) (p .night .inbound) b (p .night .tracks) (p .night .room) (p .steps) (p .codes)) (sym free))
+    (ap (λ (b : Bool). planOf (p .night .lengths) (p .night .inbound) b (p .night .tracks) (p .night .room) (p .steps) (p .codes))
+    (mark-back (p .night .closed)))
 
--- the plan of a card is one of an open night
-pub cardPlan-open : (bytes : List ℕ) → cardPlan bytes .night .closed ≡ false
-unfolding cardPlan
-cardPlan-open bytes = refl
+pub card-right-edition : (p : Plan) → Fitting p → editionOf (cardPlan (card p)) ≡ headOn (card p) .edition
+card-right-edition p f = ap editionOf (cardPlan-card p f) ∙ sym (ap (λ h. h .edition) (card-head p f))
 
 pub card-right-length : (p : Plan) → Fitting p → rightLength (card p) ≡ length (card p)
 unfolding rightLength
@@ -154,6 +167,18 @@ card-ends-right p f =
     and-both
     (ap (every (λ b. eqb b 0)) (card-spare p f) ∙ every-zeros (spare p))
     (eq-eqb (length (card p)) (rightLength (card p)) (sym (card-right-length p f)))
+
+-- the head of a plan is one with its numbers
+headAs : (p : Plan) (h : Head)
+    → editionOf p ≡ h .edition
+    → tally (p .night .closed) ≡ h .mark
+    → p .steps ≡ h .steps
+    → p .night .tracks ≡ h .tracks
+    → p .night .room ≡ h .room
+    → length (p .night .inbound) ≡ h .cars
+    → length (p .night .lengths) ≡ h .trains
+    → headOf p ≡ h
+headAs p h edition mark steps tracks room cars trains = rw (edition, mark, steps, tracks, room, cars, trains)
 
 -- Card, plan, card. The lists of a card's plan are as long as its head says, whatever the bytes.
 listsOn-length : (bytes : List ℕ) → length (listsOn bytes) ≡ headOn bytes .trains + headOn bytes .cars + headOn bytes .cars
@@ -188,10 +213,57 @@ module _ (bytes : List ℕ) where
   unfolding headOn listsOn
   cardFields = unpacked-append (headWidths (layout (headOn bytes .edition))) (listWidths (headOn bytes)) (bitsOf bytes)
 
-  module _ (edition : headOn bytes .edition ≡ 1) where
+  -- the plan's mark is the card's
+  pub cardPlan-closed : cardPlan bytes .night .closed ≡ closedBy (headOn bytes .mark)
+  unfolding cardPlan
+  cardPlan-closed = refl
+
+  -- the mark on a card has one bit, or none
+  mark-bits : headOn bytes .mark < 2 ^ layout (headOn bytes .edition) .mark
+  unfolding headOn
+  mark-bits =
+      let bits = unpacked-fits (headWidths (layout (headOn bytes .edition))) (bitsOf bytes) (bitsOf-below bytes) in
+      bits .1 .0
+
+  head-mark : headOn bytes .mark < 2
+  head-mark = lt-of-lt-of-le mark-bits (pow-mono (edition-suits (headOn bytes .edition) .mark))
+
+  cardPlan-mark : tally (cardPlan bytes .night .closed) ≡ headOn bytes .mark
+  unfolding cardPlan
+  cardPlan-mark = mark-again (headOn bytes .mark) head-mark
+
+  -- the edition of a card's plan, by the card's head
+  pub cardPlan-edition : let h = headOn bytes in
+      editionOf (cardPlan bytes) ≡ editionFor (closedBy (h .mark)) (h .cars) (h .trains) (h .tracks) (h .room) (h .steps)
+  unfolding cardPlan
+  cardPlan-edition = rw (cardPlan-trains, cardPlan-cars)
+
+  -- a card of edition 1 within its limits is never of the wrong edition
+  pub first-right : headOn bytes .edition ≡ 1 → HeadWithin (limitsOf (headOn bytes .edition)) (headOn bytes)
+      → editionOf (cardPlan bytes) ≡ headOn bytes .edition
+  unfolding layout limitsOf
+  first-right first within =
+      let h = headOn bytes in
+      let few : HeadWithin firstLimits h = rw first at within in
+      let none : h .mark < 1 = rw first at mark-bits in
+      let zero : h .mark ≡ 0 = omega (arith, none) in
+      let free : closedBy (h .mark) ≡ false = ap closedBy zero in
+      cardPlan-edition ∙
+      (edition-first (closedBy (h .mark)) (h .cars) (h .trains) (h .tracks) (h .room) (h .steps)
+      (record {
+        free = free;
+        cars = few .cars .1;
+        trains = few .trains .1;
+        tracks = few .tracks .1;
+        room = few .room .1;
+        steps = few .steps .1;
+      }) ∙
+      sym first)
+
+  module _ (right : editionOf (cardPlan bytes) ≡ headOn bytes .edition) where
     pub cardPlan-head : headOf (cardPlan bytes) ≡ headOn bytes
     unfolding cardPlan
-    cardPlan-head = rw (cardPlan-trains, cardPlan-cars, ← edition)
+    cardPlan-head = headAs (cardPlan bytes) (headOn bytes) right cardPlan-mark refl refl refl cardPlan-cars cardPlan-trains
 
     cardPlan-fields : fields (cardPlan bytes) ≡ unpacked (widths (headOn bytes)) (bitsOf bytes)
     unfolding fields
@@ -200,10 +272,10 @@ module _ (bytes : List ℕ) where
         ∙ ap (λ l. headFields (headOn bytes) ++ l) cardPlan-lists
         ∙ sym cardFields
 
--- a list of bytes that is a card: its edition is 1, and it ends where it should
+-- a list of bytes that is a card: its edition is that of its plan, and it ends where it should
 pub record IsCard (bytes : List ℕ) : Type 0 where
   pub small : Bytes bytes
-  pub edition : headOn bytes .edition ≡ 1
+  pub right : editionOf (cardPlan bytes) ≡ headOn bytes .edition
   pub ends : endsRight bytes ≡ true
 
 pub card-isCard : (p : Plan) → Fitting p → IsCard (card p)
@@ -211,7 +283,7 @@ unfolding card
 card-isCard p f =
     record {
       small = toBytes-below (packed (widths (headOf p)) (fields p)) (packed-below (widths (headOf p)) (fields p));
-      edition = ap (λ h. h .edition) (card-head p f);
+      right = card-right-edition p f;
       ends = card-ends-right p f;
     }
 
@@ -238,8 +310,8 @@ module _ (bytes : List ℕ) (is : IsCard bytes) where
   -- the fields of a card's plan are the card's bits up to the spare ones
   cardPlan-bits : packed (widths (headOf (cardPlan bytes))) (fields (cardPlan bytes)) ≡ take end (bitsOf bytes)
   cardPlan-bits =
-      ap (λ h. packed (widths h) (fields (cardPlan bytes))) (cardPlan-head bytes (is .edition))
-      ∙ ap (packed (widths (headOn bytes))) (cardPlan-fields bytes (is .edition))
+      ap (λ h. packed (widths h) (fields (cardPlan bytes))) (cardPlan-head bytes (is .right))
+      ∙ ap (packed (widths (headOn bytes))) (cardPlan-fields bytes (is .right))
       ∙ packed-unpacked-enough (widths (headOn bytes)) (bitsOf bytes) (bitsOf-below bytes) enough
 
   pub card-cardPlan : card (cardPlan bytes) ≡ bytes
@@ -256,7 +328,7 @@ module _ (bytes : List ℕ) (is : IsCard bytes) where
       ∙ ap toBytes cut
       ∙ toBytes-bitsOf bytes (is .small)
 
--- no two cards of one plan
+-- no two cards of one plan, over both editions
 pub card-unique : (x y : List ℕ) → IsCard x → IsCard y → cardPlan x ≡ cardPlan y → x ≡ y
 card-unique x y isx isy e = sym (card-cardPlan x isx) ∙ ap card e ∙ card-cardPlan y isy
 

@@ -1,9 +1,9 @@
--- A long input cut: the reader needs no more of its bytes than one beyond the longest card, 1,237, to give the verdict of the whole.
+-- A long input cut: the reader needs no more of its bytes than one beyond the longest card, 15,271, to give the verdict of the whole.
 use Prim.Native.Nat.{ℕ, zero, suc, _+_, _*_, _^_, _≤_}
 use mathlib.Core.Path.{_≡_, refl, sym, ap, ap₂, _∙_}
 use mathlib.Core.Bool.{Bool, true, false, cond}
 use mathlib.Core.List.{List, [], _∷_, _++_, append-assoc}
-use native.Mathlib.Nat.{not-suc-le-zero, le-of-suc-le-suc, mul-le-mul}
+use native.Mathlib.Nat.{not-suc-le-zero, le-of-suc-le-suc}
 use native.Mathlib.Omega.{arith}
 use lib.Dec.{leb, eqb}
 use lib.ListN.{length, take, drop, length-append, length-drop}
@@ -12,19 +12,19 @@ use borrow.Author.Tests.{le-leb, eqb-true}
 use Rattle.yard.specs.declared.Answer.{Answer}
 use Rattle.yard.specs.declared.Head.{Head}
 use Rattle.yard.specs.Words.{every}
-use Rattle.yard.specs.Limits.{limits}
-use Rattle.yard.specs.Night.{Plan, planOf, sum}
+use Rattle.yard.specs.Night.{Plan, planOf, closedBy, sum}
 use Rattle.yard.specs.Answers.{says, test, verdict, answers, listTest}
 use Rattle.yard.specs.Calls.{nightTests}
 use Rattle.yard.specs.Bits.{fromBits, toBits, unpacked, bitsOf}
 use Rattle.yard.specs.Card.{layout, headWidths, headFrom, listWidths, widths, headLength, cardLength, headOn, listsOn, cardPlan, rightLength, endsRight}
-use Rattle.yard.specs.Card.{headCounts, HeadWithin, readerVerdict}
+use Rattle.yard.specs.Card.{limitsOf, known, editionOf, headCounts, HeadWithin, readerVerdict}
 use Rattle.yard.proofs.general.Bools.{and-right, not-so, clash}
 use Rattle.yard.proofs.general.Lists.{total-append}
 use Rattle.yard.proofs.cards.Bits.{length-bitsOf}
 use Rattle.yard.proofs.calls.Verdict.{Passed}
 use Rattle.yard.proofs.calls.Tests.{counts-passed}
-use Rattle.yard.proofs.cards.Card.{widths-sum}
+use Rattle.yard.proofs.cards.Card.{widths-longest, head-longest}
+use Rattle.yard.proofs.cards.Editions.{edition-suits}
 use Rattle.yard.proofs.CardDemands.{reader-accepts-exactly}
 
 -- ---- fields read from bits, where more bits follow
@@ -60,27 +60,26 @@ widths-parts h = total-append (λ x. x) (headWidths (layout (h .edition))) (list
 -- ---- a head in range announces a card that is no longer than the longest
 
 counts : Head → List Answer
-counts h = answers (headCounts limits h)
+counts h = answers (headCounts h)
 
-announced-bits : (h : Head) → Passed (counts h) → sum (widths h) ≤ 1237 * 8
-unfolding counts layout
-announced-bits h passed =
-    let w : HeadWithin limits h = counts-passed limits (h .cars) (h .trains) (h .tracks) (h .room) (h .steps) .0 passed in
-    omega (arith, widths-sum h, w .cars .1, w .trains .1, mul-le-mul (w .cars .1) (w .steps .1))
-
-announced : (h : Head) → Passed (counts h) → cardLength h ≤ 1237
-unfolding cardLength
-announced h passed = omega (arith, announced-bits h passed)
+counts-in : (h : Head) → Passed (counts h) → HeadWithin (limitsOf (h .edition)) h
+unfolding counts
+counts-in h passed = counts-passed (limitsOf (h .edition)) (h .cars) (h .trains) (h .tracks) (h .room) (h .steps) .0 passed
 
 -- and more bytes than that do not end right
-too-long : (bytes : List ℕ) → 1238 ≤ length bytes → Passed (counts (headOn bytes)) → endsRight bytes ≡ false
+too-long : (bytes : List ℕ) → 15272 ≤ length bytes → Passed (counts (headOn bytes)) → endsRight bytes ≡ false
 unfolding endsRight rightLength
 too-long bytes long passed =
     not-so (endsRight bytes)
     (λ t.
     let size = length bytes in
     let zeros = every (λ b. eqb b 0) (drop (sum (widths (headOn bytes))) (bitsOf bytes)) in
-    absurd (omega (arith, announced (headOn bytes) passed, eqb-true size (rightLength bytes) (and-right zeros (eqb size (rightLength bytes)) t))))
+    let most = head-longest (headOn bytes) (counts-in (headOn bytes) passed) in
+    absurd (omega (arith, most, eqb-true size (rightLength bytes) (and-right zeros (eqb size (rightLength bytes)) t))))
+
+-- a head has fewer bits than the longest card
+head-few : (edition : ℕ) → sum (headWidths (layout edition)) ≤ 15271 * 8
+head-few edition = omega (arith, edition-suits edition .longest)
 
 -- the lists behind a head, and the plan of both
 listsFrom : Head → List ℕ → List ℕ
@@ -89,13 +88,13 @@ listsFrom h bits = unpacked (listWidths h) (drop (sum (headWidths (layout (h .ed
 planFrom : Head → List ℕ → Plan
 planFrom h lists =
     let byCar = drop (h .trains) lists in
-    planOf (take (h .trains) lists) (take (h .cars) byCar) false (h .tracks) (h .room) (h .steps) (drop (h .cars) byCar)
+    planOf (take (h .trains) lists) (take (h .cars) byCar) (closedBy (h .mark)) (h .tracks) (h .room) (h .steps) (drop (h .cars) byCar)
 
 -- ---- the reader's verdict, with what hangs on the bytes behind the head set apart
 
 begins : Bool → Bool → Head → List Answer
 begins some whole h =
-    test some (says 10 1 0) ∷ test (eqb (h .edition) 1) (says 11 (h .edition) 0) ∷ test whole (says 10 (headLength h) 0) ∷ counts h
+    test some (says 10 1 0) ∷ test (known (h .edition)) (says 11 (h .edition) 0) ∷ test whole (says 10 (headLength h) 0) ∷ counts h
 
 module _ (a b c : ℕ) where
   body : Head → Bool → Plan → Bool → Answer
@@ -106,12 +105,12 @@ module _ (a b c : ℕ) where
       listTest 2 (leb (h .cars) b) ∷
       listTest 3 (leb (h .cars) c) ∷
       nightTests (p .night) ++
-      (test ends (says 12 (cardLength h) 0) ∷ []))
+      (test ends (says 12 (cardLength h) 0) ∷ test (eqb (editionOf p) (h .edition)) (says 17 0 0) ∷ []))
       (says 0 0 0)
 
   reader-parts : (bytes : List ℕ)
       → let h = headOn bytes in
-      readerVerdict limits bytes a b c
+      readerVerdict bytes a b c
       ≡ verdict (begins (leb 1 (length bytes)) (leb (headLength h) (length bytes)) h)
       (body h (leb (cardLength h) (length bytes)) (cardPlan bytes) (endsRight bytes))
   unfolding readerVerdict rightLength counts begins body
@@ -119,33 +118,37 @@ module _ (a b c : ℕ) where
 
   -- the verdict on more bytes than any card has
   long-verdict : (bytes : List ℕ) (p : Plan)
-      → 1238 ≤ length bytes
+      → 15272 ≤ length bytes
       → (Passed (counts (headOn bytes)) → cardPlan bytes ≡ p)
-      → readerVerdict limits bytes a b c ≡ verdict (begins true true (headOn bytes)) (body (headOn bytes) true p false)
-  unfolding begins headLength layout
+      → readerVerdict bytes a b c ≡ verdict (begins true true (headOn bytes)) (body (headOn bytes) true p false)
+  unfolding begins headLength
   long-verdict bytes p long plan =
       let h = headOn bytes in
       let n = length bytes in
       reader-parts bytes
       ∙ ap₂ (λ (some whole : Bool). verdict (begins some whole h) (body h (leb (cardLength h) n) (cardPlan bytes) (endsRight bytes)))
       (le-leb 1 n (omega arith))
-      (le-leb 5 n (omega arith))
+      (le-leb (headLength h) n (omega (arith, head-few (h .edition))))
       ∙ verdict-same (begins true true h) (body h (leb (cardLength h) n) (cardPlan bytes) (endsRight bytes)) (body h true p false) same
     where
       same : Passed (begins true true (headOn bytes))
           → body (headOn bytes) (leb (cardLength (headOn bytes)) (length bytes)) (cardPlan bytes) (endsRight bytes) ≡ body (headOn bytes) true p false
       same (some, (edition, (whole, passed))) =
           let h = headOn bytes in
-          ap (λ t. body h t (cardPlan bytes) (endsRight bytes)) (le-leb (cardLength h) (length bytes) (omega (arith, announced h passed)))
+          ap (λ t. body h t (cardPlan bytes) (endsRight bytes)) (le-leb (cardLength h) (length bytes) (omega (arith, head-longest h (counts-in h passed))))
           ∙ ap₂ (λ (q : Plan) (t : Bool). body h true q t) (plan passed) (too-long bytes long passed)
 
-  module _ (x y : List ℕ) (long : 1238 ≤ length x) where
+  module _ (x y : List ℕ) (long : 15272 ≤ length x) where
+    edition-cut : fromBits 4 (bitsOf (x ++ y)) ≡ fromBits 4 (bitsOf x)
+    edition-cut = ap (fromBits 4) (bitsOf-append x y) ∙ fromBits-front 4 (bitsOf x) (bitsOf y) (omega (arith, length-bitsOf x))
+
     head-cut : headOn (x ++ y) ≡ headOn x
-    unfolding headOn layout
+    unfolding headOn
     head-cut =
-        let l = layout 1 in
-        ap (λ bits. headFrom (unpacked (headWidths l) bits)) (bitsOf-append x y)
-        ∙ ap headFrom (unpacked-front (headWidths l) (bitsOf x) (bitsOf y) (omega (arith, length-bitsOf x)))
+        let l = layout (fromBits 4 (bitsOf x)) in
+        ap (λ e. headFrom (unpacked (headWidths (layout e)) (bitsOf (x ++ y)))) edition-cut
+        ∙ ap (λ bits. headFrom (unpacked (headWidths l) bits)) (bitsOf-append x y)
+        ∙ ap headFrom (unpacked-front (headWidths l) (bitsOf x) (bitsOf y) (omega (arith, length-bitsOf x, head-few (fromBits 4 (bitsOf x)))))
 
     plan-cut : Passed (counts (headOn x)) → cardPlan (x ++ y) ≡ cardPlan x
     unfolding cardPlan listsOn listsFrom planFrom
@@ -160,23 +163,24 @@ module _ (a b c : ℕ) where
         front = sum (headWidths (layout (h .edition)))
 
         enough : front + sum (listWidths h) ≤ length (bitsOf x)
-        enough = omega (arith, announced-bits h passed, length-bitsOf x, widths-parts h)
+        enough = omega (arith, widths-longest h (counts-in h passed), length-bitsOf x, widths-parts h)
 
         lists-cut : listsFrom h (bitsOf x ++ bitsOf y) ≡ listsFrom h (bitsOf x)
         lists-cut =
             ap (unpacked (listWidths h)) (drop-append-le front (bitsOf x) (bitsOf y) (omega (arith, enough)))
             ∙ unpacked-front (listWidths h) (drop front (bitsOf x)) (bitsOf y) (omega (arith, enough, length-drop front (bitsOf x)))
 
-    pub reader-cut : readerVerdict limits (x ++ y) a b c ≡ readerVerdict limits x a b c
+    pub reader-cut : readerVerdict (x ++ y) a b c ≡ readerVerdict x a b c
     reader-cut =
         long-verdict (x ++ y) (cardPlan x) (omega (arith, length-append x y, long)) (λ passed. plan-cut (rw head-cut at passed))
         ∙ ap (λ h. verdict (begins true true h) (body h true (cardPlan x) false)) head-cut
         ∙ sym (long-verdict x (cardPlan x) long (λ _. refl))
 
   -- no input longer than the longest card is read
-  pub long-refused : (bytes : List ℕ) → 1238 ≤ length bytes → readerVerdict limits bytes a b c .number ≡ 0 → ⊥
+  pub long-refused : (bytes : List ℕ) → 15272 ≤ length bytes → readerVerdict bytes a b c .number ≡ 0 → ⊥
   unfolding counts
   long-refused bytes long e =
-      let r = reader-accepts-exactly limits bytes a b c .0 e in
+      let r = reader-accepts-exactly bytes a b c .0 e in
       let h = headOn bytes in
-      clash (r .ends) (too-long bytes long (counts-passed limits (h .cars) (h .trains) (h .tracks) (h .room) (h .steps) .1 (r .counts)))
+      clash (r .ends)
+      (too-long bytes long (counts-passed (limitsOf (h .edition)) (h .cars) (h .trains) (h .tracks) (h .room) (h .steps) .1 (r .counts)))

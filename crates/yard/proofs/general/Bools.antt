@@ -22,6 +22,10 @@ and-right false c e = clash e refl
 pub and-both : {b c : Bool} → b ≡ true → c ≡ true → (b && c) ≡ true
 and-both {b} {c} p q = cc
 
+pub or-either : (b c : Bool) → (b || c) ≡ true → (b ≡ true) ⊎ (c ≡ true)
+or-either true c e = inl refl
+or-either false c e = inr e
+
 pub not-true : (b : Bool) → not b ≡ true → b ≡ false
 not-true true e = sym e
 not-true false e = refl

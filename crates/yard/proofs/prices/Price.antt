@@ -17,7 +17,8 @@ use lib.Ieee.Scale.{round-same}
 use borrow.Author.Tests.{leb-true, eqb-true, le-leb, lt-leb, eq-eqb, ne-eqb}
 use Rattle.yard.specs.declared.Timings.{Timings}
 use Rattle.yard.specs.declared.PriceAnswer.{PriceAnswer}
-use Rattle.yard.specs.Limits.{Limits, limits}
+use Rattle.yard.specs.declared.Limits.{Limits}
+use Rattle.yard.specs.Limits.{limits}
 use Rattle.yard.specs.declared.Answer.{Answer}
 use Rattle.yard.specs.Answers.{says, verdict, answers, AllHold, FirstFails}
 use Rattle.yard.specs.Price.{seconds, positiveZero, sixteenths, timing, timingAsk, priceAsks, Priceable, priceWorth, priced, priceAnswer, Prices}
