@@ -10,6 +10,7 @@ use lib.Dec.{leb}
 use lib.ListN.{length, getD, length-map}
 use lib.Pow.{pow-mono}
 use borrow.Author.Tests.{le-leb, lt-leb, leb-true}
+use Rattle.yard.specs.Limits.{limits, firstLimits}
 use Rattle.yard.specs.Words.{upFrom}
 use Rattle.yard.specs.Replay.{bit}
 use Rattle.yard.specs.Codes.{usable, fewestTracks}
@@ -102,19 +103,7 @@ fewest-gap h x some =
     (usable-gap w h x (r .0) ∙ le-leb w w (le-refl w))
     (λ W l m. usable-gap W h x l ∙ lt-leb w W m)
 
--- ---- the rule over all codes of h steps, carried to each entry
-
-pub entry : (h code : ℕ) → 0 < h → code < 2 ^ h → getD (gaps h) code 0 ≡ fewestTracks h code
-entry h code some m = map-item (widestGap h) 0 (2 ^ h) code m ∙ (ap (widestGap h) (zero-add code) ∙ sym (fewest-gap h code some))
-
--- the same of a list that is the table, whose length is the number of codes
-pub told-fewest : (table : List ℕ) (code : ℕ) → table ≡ gaps 8 → code < 2 ^ 8 → getD table code 0 ≡ fewestTracks 8 code
-told-fewest table code is m = ap (λ (l : List ℕ). getD l code 0) is ∙ entry 8 code (omega arith) m
-
-pub gaps-length : (h : ℕ) → length (gaps h) ≡ 2 ^ h
-gaps-length h = length-map (upFrom 0 (2 ^ h)) (widestGap h) ∙ length-upFrom 0 (2 ^ h)
-
--- a code of fewer steps has the same number
+-- a code of fewer steps has the same number, and so the same fewest tracks
 gap-grow : (d h x : ℕ) → x < 2 ^ h → widestGap (h + d) x ≡ widestGap h x
 gap-grow zero h x m = ap (λ (k : ℕ). widestGap k x) (add-zero h)
 gap-grow (suc d) h x m =
@@ -122,6 +111,12 @@ gap-grow (suc d) h x m =
     (ap (λ (b : Bool). cond b (max (widestGap (h + d) x) (suc (h + d) - height (h + d) x)) (widestGap (h + d) x))
     (bit-above (h + d) x (lt-of-lt-of-le m (pow-mono (le-add-right h d)))) ∙
     gap-grow d h x m)
+
+pub fewest-grow : (h H x : ℕ) → 0 < h → h ≤ H → x < 2 ^ h → fewestTracks H x ≡ fewestTracks h x
+fewest-grow h H x some l m =
+    let e : h + (H - h) ≡ H = omega arith in
+    fewest-gap H x (omega arith) ∙
+    (ap (λ (k : ℕ). widestGap k x) (sym e) ∙ (gap-grow (H - h) h x m ∙ sym (fewest-gap h x some)))
 
 pub usable-grow : (W : ℕ) → 0 < W → (d h x : ℕ) → x < 2 ^ h → usable W (h + d) x ≡ usable W h x
 usable-grow W pos d h x m = usable-gap W (h + d) x pos ∙ (ap (λ (w : ℕ). leb w W) (gap-grow d h x m) ∙ sym (usable-gap W h x pos))
@@ -131,3 +126,26 @@ usable-fewest W h H x pos some l m =
     let e : h + (H - h) ≡ H = omega arith in
     usable-gap W h x pos ∙
     ap (λ (w : ℕ). leb w W) (sym (gap-grow (H - h) h x m) ∙ (ap (λ (k : ℕ). widestGap k x) e ∙ sym (fewest-gap H x some)))
+
+-- ---- the rule over all codes of h steps, carried to each entry
+
+pub gaps-length : (h : ℕ) → length (gaps h) ≡ 2 ^ h
+gaps-length h = length-map (upFrom 0 (2 ^ h)) (widestGap h) ∙ length-upFrom 0 (2 ^ h)
+
+pub entry : (h code : ℕ) → code < 2 ^ h → getD (gaps h) code 0 ≡ widestGap h code
+entry h code m = map-item (widestGap h) 0 (2 ^ h) code m ∙ ap (widestGap h) (zero-add code)
+
+-- the same of a list that is the table
+module _ (table : List ℕ) (is : table ≡ gaps (firstLimits .steps)) where
+  pub entry-within : (code : ℕ) → code < 2 ^ firstLimits .steps → code < length table
+  entry-within code m = omega (arith, ap length is, gaps-length (firstLimits .steps))
+
+  pub told : (code : ℕ) → code < 2 ^ firstLimits .steps → getD table code 0 ≡ widestGap (firstLimits .steps) code
+  told code m = ap (λ (l : List ℕ). getD l code 0) is ∙ entry (firstLimits .steps) code m
+
+  -- up to the table's end the fewest tracks are its entries, whatever the most steps
+  pub told-fewest : (code : ℕ) → code < 2 ^ firstLimits .steps → getD table code 0 ≡ fewestTracks (limits .steps) code
+  told-fewest code m =
+      told code m ∙
+      (sym (fewest-gap (firstLimits .steps) code (omega arith)) ∙
+      sym (fewest-grow (firstLimits .steps) (limits .steps) code (omega arith) (omega arith) m))

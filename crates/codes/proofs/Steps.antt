@@ -9,11 +9,11 @@ use native.Mathlib.Omega.{arith}
 use lib.Dec.{leb}
 use lib.ListN.{length, getD, set, replicate, getD-replicate}
 use lib.Seq.{getD-set-same, getD-set-other}
-use borrow.Author.Tests.{le-leb, lt-leb}
+use borrow.Author.Tests.{le-leb, lt-leb, leb-false}
 use Rattle.yard.specs.Words.{first}
 use Rattle.yard.specs.Codes.{F, fewestSteps}
 use Rattle.yard.proofs.general.Numbers.{le-or-lt}
-use Rattle.yard.proofs.general.First.{first-hits, first-ends}
+use Rattle.yard.proofs.general.First.{first-none, first-hits, first-ends}
 use Rattle.yard.proofs.yards.Counting.{take-F, take-F-all}
 use Rattle.codes.specs.Ring.{lost, Ring}
 
@@ -66,3 +66,12 @@ fewest-found W c h l m e =
     (λ s. first-hits (enough W c) c h h s (le-leb (suc c) (F W h) m))
     (eq-or-lt-of-le l)) ∙
     e
+
+-- the steps before the last have no code for the most breaks, and the last at most doubles how many there are
+pub fewest-few : (W c most : ℕ) → 0 < most → c ≤ most → F W (fewestSteps W c) ≤ 2 * most
+unfolding fewestSteps
+fewest-few W c most some l = go (fewestSteps W c) (λ h m. leb-false (suc c) (F W h) (first-none (enough W c) c 0 h (omega arith) m))
+  where
+    go : (h : ℕ) → ((k : ℕ) → k < h → F W k < suc c) → F W h ≤ 2 * most
+    go zero short = omega arith
+    go (suc h) short = omega (arith, F-next W h, short h (omega arith))

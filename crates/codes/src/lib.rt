@@ -1,9 +1,10 @@
 // Usable codes: the fewest tracks of a code, the fewest steps for a number of breaks, and the usable codes in rising order.
 ghost use mathlib.Core.Path.{_≡_};
 ghost use mathlib.Core.List.{_++_, map};
-ghost use Prim.Native.Nat.{_+_, _≤_, _^_};
+ghost use Prim.Native.Nat.{_+_, _≤_, _<_, _^_};
 ghost use lib.ListN.{length, take, drop};
-ghost use Rattle.yard.specs.Limits.{limits};
+ghost use lib.Count.{leadingZeros, trailingZeros};
+ghost use Rattle.yard.specs.Limits.{limits, firstLimits};
 ghost use Rattle.yard.specs.Demands.{Within};
 ghost use Rattle.yard.specs.Codes.{F, fewestTracks, fewestSteps, usableCodes};
 ghost use Rattle.codes.specs.Allowed.{AllowedPart};
@@ -12,8 +13,12 @@ ghost use Rattle.scan.specs.Front.{Under, Front};
 ghost use Rattle.codes.specs.Ring.{lost, Ring};
 ghost use Rattle.codes.specs.Wider.{firstWider};
 
-// How many codes there are of the most steps.
-pub const CODES: usize = 1 << yard::STEPS;
+// How many codes there are of document 01's most steps.
+pub const CODES: usize = 1 << yard::FIRST_STEPS;
+
+// The most usable codes that the fewest steps of a night have: the steps before the last have a code for no more than all cars, and a step at most
+// doubles them.
+pub const MOST_CODES: usize = 2 * yard::CARS;
 
 // A part of a list: the index of its first item, and that behind its last.
 pub struct Part {
@@ -281,9 +286,9 @@ const FEWEST: [u8; 256] = [
     1,
 ];
 
-// The table, with its rule: computed over all codes here, and nowhere else.
+// The table, with its rule: computed over all its codes here, and nowhere else.
 fn table() -> [u8; 256]
-    ensures { λ r. ⌜ r ≡ gaps 8 ⌝ }
+    ensures { λ r. ⌜ r ≡ gaps (firstLimits .steps) ⌝ }
 {
     FEWEST
 }
@@ -295,17 +300,47 @@ fn wide(entry: u8) -> usize
     entry as usize
 }
 
+// The gap between two bytes of a code, the upper of which is not 0: from the highest set bit of the lower one, or from -1 where there is none, to
+// the lowest of the upper one.
+fn between(low: u8, high: u8) -> usize
+    ensures { λ r. ⌜ r ≡ leadingZeros (firstLimits .steps) low + trailingZeros (firstLimits .steps) high + 1 ⌝ }
+{
+    u8::leading_zeros(low) as usize + u8::trailing_zeros(high) as usize + 1
+}
+
+// The fewest tracks of a code above the table's: the widest gap is within one of its two bytes, or between them.
+fn worked_out(table: &[u8], code: usize) -> usize
+    requires { ⌜ (now table ≡ gaps (firstLimits .steps)) × (2 ^ firstLimits .steps ≤ code) × (code < 2 ^ limits .steps) ⌝ }
+    ensures { λ r. ⌜ r ≡ fewestTracks (limits .steps) code ⌝ }
+{
+    let low = code % CODES;
+    let high = code / CODES;
+    let within = scan::more(wide(table[low]), wide(table[high]));
+    scan::more(within, between(low as u8, high as u8))
+}
+
+// The fewest tracks of a code, by the table.
+fn fewest(table: &[u8], code: usize) -> usize
+    requires { ⌜ (now table ≡ gaps (firstLimits .steps)) × (code < 2 ^ limits .steps) ⌝ }
+    ensures { λ r. ⌜ r ≡ fewestTracks (limits .steps) code ⌝ }
+{
+    if code < CODES {
+        return wide(table[code]);
+    }
+    worked_out(table, code)
+}
+
 // The fewest tracks on which a car with this code is never pulled early.
-pub fn fewest_tracks(code: u8) -> usize
-    ensures { λ r. ⌜ r ≡ fewestTracks 8 code ⌝ }
+pub fn fewest_tracks(code: u16) -> usize
+    ensures { λ r. ⌜ r ≡ fewestTracks (limits .steps) code ⌝ }
 {
     let table = table();
-    wide(table[code as usize])
+    fewest(&table, code as usize)
 }
 
 // The index of the first code whose entry of the table is above these tracks, or the number of codes where none is.
 fn first_above(table: &[u8], codes: &[u16], tracks: usize) -> usize
-    requires { ⌜ (now table ≡ gaps 8) × Under (2 ^ 8) (now codes) ⌝ }
+    requires { ⌜ (now table ≡ gaps (firstLimits .steps)) × Under (2 ^ firstLimits .steps) (now codes) ⌝ }
     ensures { λ r. ⌜ r ≡ firstWider tracks (now (codes .entry)) ⌝ }
 {
     for i in 0..codes.len() {
@@ -316,13 +351,30 @@ fn first_above(table: &[u8], codes: &[u16], tracks: usize) -> usize
     codes.len()
 }
 
-// The index of the first code that needs more tracks than these, or the number of codes where none does.
-pub fn first_wider(codes: &[u16], tracks: usize) -> usize
-    requires { ⌜ Under (2 ^ 8) (now codes) ⌝ }
+// The same where codes may lie beyond the table.
+fn first_beyond(table: &[u8], codes: &[u16], tracks: usize) -> usize
+    requires { ⌜ now table ≡ gaps (firstLimits .steps) ⌝ }
+    ensures { λ r. ⌜ r ≡ firstWider tracks (now (codes .entry)) ⌝ }
+{
+    for i in 0..codes.len() {
+        if tracks < fewest(table, codes[i] as usize) {
+            return i;
+        }
+    }
+    codes.len()
+}
+
+// The index of the first code of these steps that needs more tracks than these, or the number of codes where none does. Codes of few steps are
+// looked up without a question whether the table has them.
+pub fn first_wider(codes: &[u16], tracks: usize, steps: usize) -> usize
+    requires { ⌜ Under (2 ^ steps) (now codes) ⌝ }
     ensures { λ r. ⌜ r ≡ firstWider tracks (now (codes .entry)) ⌝ }
 {
     let table = table();
-    first_above(&table, codes, tracks)
+    if steps <= yard::FIRST_STEPS {
+        return first_above(&table, codes, tracks);
+    }
+    first_beyond(&table, codes, tracks)
 }
 
 // Takes out of the ring how many codes this step loses, and puts in how many there are.
@@ -365,7 +417,7 @@ fn with_bit(bit: u16, but: usize, codes: usize, into: &mut [u16]) -> usize
 
 // Writes the usable codes of these steps to the front of a list, in rising order, and answers how many there are.
 pub fn usable_codes(tracks: usize, steps: usize, into: &mut [u16]) -> usize
-    requires { ⌜ Within 1 (limits .tracks) tracks × (steps ≤ limits .steps) × (2 ^ steps ≤ length (now into)) ⌝ }
+    requires { ⌜ Within 1 (limits .tracks) tracks × (steps ≤ limits .steps) × (F tracks steps ≤ length (now into)) ⌝ }
     ensures { λ r. ⌜ Front (usableCodes tracks steps) (now (into .entry)) r (now (into .exit)) ⌝ }
 {
     let mut ring = [0usize; yard::TRACKS];
@@ -381,7 +433,7 @@ pub fn usable_codes(tracks: usize, steps: usize, into: &mut [u16]) -> usize
 // Writes the usable codes of these steps to the front of a list, and answers the part of it that a night allows: all, or where it is closed all
 // but the first, which is 0.
 pub fn allowed_codes(closed: bool, tracks: usize, steps: usize, into: &mut [u16]) -> Part
-    requires { ⌜ Within 1 (limits .tracks) tracks × (steps ≤ limits .steps) × (2 ^ steps ≤ length (now into)) ⌝ }
+    requires { ⌜ Within 1 (limits .tracks) tracks × (steps ≤ limits .steps) × (F tracks steps ≤ length (now into)) ⌝ }
     ensures { λ r. ⌜ AllowedPart closed tracks steps (now (into .exit)) r ⌝ }
 {
     let to = usable_codes(tracks, steps, into);

@@ -1,4 +1,2 @@
--- The laws on which the proofs of this crate rest, and in `Passed` those that its callers need.
-pub mod Wide
-pub mod Zero
+-- The laws that the callers of this crate need.
 pub mod Passed

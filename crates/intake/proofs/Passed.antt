@@ -1,30 +1,22 @@
--- What callers learn from the answers of this crate: which counts and lists are not refused, and what the items of such an inbound list are.
-use mathlib.Core.Path.{_≡_, refl, ap}
+-- What callers learn from the answers of this crate: which counts are not refused.
+use mathlib.Core.Path.{_≡_, refl}
 use mathlib.Core.Logic.{_↔_}
-use mathlib.Core.Bool.{false, _&&_}
+use mathlib.Core.Bool.{_&&_}
 use mathlib.Core.List.{List}
-use Prim.Native.Nat.{ℕ, _≤_, _<_}
-use native.Mathlib.Omega.{arith}
+use Prim.Native.Nat.{ℕ, _≤_}
 use lib.Dec.{leb}
-use lib.ListN.{length, getD, take}
-use lib.Seq.{getD-take, length-take-le}
 use Rattle.yard.specs.declared.Answer.{Answer}
-use Rattle.yard.specs.Limits.{Limits}
-use Rattle.yard.specs.Words.{count}
-use Rattle.yard.specs.Night.{Night, nightOf, cars}
+use Rattle.yard.specs.declared.Limits.{Limits}
 use Rattle.yard.specs.Answers.{says, verdict, countTest}
-use Rattle.yard.specs.Calls.{countTests, nightTests}
-use Rattle.yard.specs.Demands.{InLimits, Listed}
+use Rattle.yard.specs.Calls.{countTests}
+use Rattle.yard.specs.Demands.{InLimits}
 use Rattle.yard.proofs.general.Bools.{not-so}
-use Rattle.yard.proofs.general.Lists.{count-upFrom-in, upFrom-bounds}
 use Rattle.yard.proofs.calls.Verdict.{Passed, verdict-passes}
 use Rattle.yard.proofs.calls.Tests.{counts-passed}
-use Rattle.yard.proofs.yards.Formed.{count-at, lists-passed}
-use Rattle.intake.specs.Tests.{listTests}
 use Rattle.scan.proofs.Range.{between}
 
 -- an answer that only tests is 0 exactly if every test is passed
-tests-passed : (tests : List Answer) → (verdict tests (says 0 0 0) .number ≡ 0) ↔ Passed tests
+pub tests-passed : (tests : List Answer) → (verdict tests (says 0 0 0) .number ≡ 0) ↔ Passed tests
 tests-passed tests =
     let both = verdict-passes tests (says 0 0 0) in
     (λ e. both .0 e .0, λ p. both .1 (p, refl))
@@ -37,29 +29,3 @@ counts-within L n m W C h =
     let tests = tests-passed (countTests L n m W C h) in
     let counts = counts-passed L n m W C h in
     (λ e. counts .0 (tests .0 e), λ w. tests .1 (counts .1 w))
-
--- the tests of a night are those of its lists
-pub night-lists : (n : Night) → nightTests n ≡ listTests (n .lengths) (n .inbound)
-night-lists n = refl
-
-pub lists-listed : (lengths inbound : List ℕ) → (verdict (listTests lengths inbound) (says 0 0 0) .number ≡ 0) ↔ Listed lengths inbound
-lists-listed lengths inbound =
-    let tests = tests-passed (listTests lengths inbound) in
-    let lists = lists-passed (nightOf lengths inbound false 0 0) in
-    (λ e. lists .0 (tests .0 e), λ l. tests .1 (lists .1 l))
-
--- Each car once: every item is a car, and no two are the same.
-module _ (inbound : List ℕ) (once : (car : ℕ) → count car inbound ≡ count car (cars (length inbound))) where
-  pub item-car : (i : ℕ) → i < length inbound → (1 ≤ getD inbound i 0) × (getD inbound i 0 ≤ length inbound)
-  item-car i l =
-      let x = getD inbound i 0 in
-      let here : 0 < count x (cars (length inbound)) = omega (arith, count-at inbound i l, once x) in
-      omega (arith, upFrom-bounds x 1 (length inbound) here)
-
-  pub items-differ : (i j : ℕ) → i < j → j < length inbound → getD inbound i 0 ≡ getD inbound j 0 → ⊥
-  items-differ i j l h e =
-      let x = getD inbound j 0 in
-      let car = item-car j h in
-      let first : i < length (take j inbound) = rw (length-take-le j inbound (omega arith)) l in
-      let met = rw (getD-take j inbound i 0 l) at (count-at (take j inbound) i first) in
-      omega (arith, met, ap (λ (y : ℕ). count y (take j inbound)) e, count-at inbound j h, once x, count-upFrom-in x 1 (length inbound) (car .0) (omega arith))

@@ -2,3 +2,4 @@
 pub mod Counted
 pub mod Keys
 pub mod Dealing
+pub mod Rounds

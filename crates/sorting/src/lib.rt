@@ -2,7 +2,7 @@
 pub mod early;
 
 ghost use mathlib.Core.Path.{_≡_};
-ghost use Prim.Native.Nat.{_+_, _%_, _^_, _≤_, _<_};
+ghost use Prim.Native.Nat.{_+_, _/_, _%_, _^_, _≤_, _<_};
 ghost use lib.Count.{ones};
 ghost use lib.ListN.{length};
 ghost use Rattle.yard.specs.Limits.{limits};
@@ -84,15 +84,29 @@ pub fn low(code: u16, stage: usize) -> u16
     code % (1 << stage)
 }
 
-// The cars that roll in up to a stage: each once, and once more for each set bit of its code below the stage.
-// The sum is as wide as a code, for the same reason.
-pub fn passes(codes: &[u16], stage: usize) -> usize
-    requires { ⌜ (stage ≤ limits .steps) × (length (now codes) ≤ limits .cars) ⌝ }
-    ensures { λ r. ⌜ r ≡ length (now (codes .entry)) + setBelow stage (now (codes .entry)) ⌝ }
+// The set bits of the codes below a stage, for at most half the cars of a night, so that a sum as wide as a code holds them.
+fn set_below(codes: &[u16], stage: usize) -> usize
+    requires { ⌜ (stage ≤ limits .steps) × (length (now codes) ≤ limits .cars / 2) ⌝ }
+    ensures { λ r. ⌜ (r ≡ setBelow stage (now (codes .entry))) × (r < 2 ^ 16) ⌝ }
 {
     let mut again: u16 = 0;
     for i in 0..codes.len() {
         again += ones(low(codes[i], stage));
     }
-    codes.len() + again as usize
+    again as usize
+}
+
+// The cars that roll in up to a stage: each once, and once more for each set bit of its code below the stage.
+pub fn passes(codes: &[u16], stage: usize) -> usize
+    requires { ⌜ (stage ≤ limits .steps) × (length (now codes) ≤ limits .cars) ⌝ }
+    ensures { λ r. ⌜ r ≡ length (now (codes .entry)) + setBelow stage (now (codes .entry)) ⌝ }
+{
+    let n = codes.len();
+    let half = yard::CARS / 2;
+    if n <= half {
+        return n + set_below(codes, stage);
+    }
+    let first = set_below(&codes[0..half], stage);
+    let second = set_below(&codes[half..n], stage);
+    n + (first + second)
 }

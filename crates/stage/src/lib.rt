@@ -2,7 +2,7 @@
 ghost use mathlib.Core.Path.{_≡_};
 ghost use mathlib.Core.List.{map};
 ghost use Prim.Native.Nat.{_≤_, _<_};
-ghost use lib.ListN.{length, getD};
+ghost use lib.ListN.{length, getD, replicate};
 ghost use Rattle.yard.specs.Limits.{limits};
 ghost use Rattle.yard.specs.Night.{cars, itemOf};
 ghost use Rattle.yard.specs.Demands.{Within};
@@ -12,8 +12,10 @@ ghost use Rattle.stage.specs.Stages.{targetOf, InTurn, trackBy, placeBy,
 // A track for each step, and one more.
 const TURNS: usize = yard::STEPS + 1;
 
-// The sorting tracks and the destinations.
+// The sorting tracks and the destinations, and those of a night within document 01's limits.
 const ALL_TRACKS: usize = yard::TRACKS + yard::TRAINS;
+
+const FIRST_ALL_TRACKS: usize = yard::FIRST_TRACKS + yard::FIRST_TRAINS;
 
 // The sorting track of each of the first steps, which use the tracks in turn.
 fn turns(tracks: usize, steps: usize, into: &mut [u16])
@@ -91,17 +93,31 @@ pub fn tracks(
     }
 }
 
-// Each car's place on its track, from the order in which the cars stand and their tracks.
-pub fn places(order: &[u16], on: &[u16], at: &mut [u16])
-    requires { ⌜ Standable (now order) (now on) (now at) ⌝ }
+// Each car's place on its track, from the order in which the cars stand and their tracks, with a zero for each track lent.
+fn places_with(order: &[u16], on: &[u16], standing: &mut [u16], at: &mut [u16])
+    requires { ⌜ Standable (now order) (now on) (length (now standing)) (now at) × (now standing ≡ replicate (length (now standing)) 0) ⌝ }
     ensures { λ _. ⌜ Front (map (placeBy (now (order .entry)) (itemOf (now (on .entry)))) (cars (length (now (order .entry)))))
         (now (at .entry)) (length (now (order .entry))) (now (at .exit)) ⌝ }
 {
-    let mut standing = [0u16; ALL_TRACKS];
     for i in 0..order.len() {
         let car = order[i] as usize;
         let track = on[car - 1] as usize;
         at[car - 1] = standing[track];
         standing[track] += 1;
     }
+}
+
+// Each car's place on its track, where all tracks are below a number; few tracks are counted in a small array, so that less is zeroed.
+pub fn places(order: &[u16], on: &[u16], all: usize, at: &mut [u16])
+    requires { ⌜ Standable (now order) (now on) all (now at) ⌝ }
+    ensures { λ _. ⌜ Front (map (placeBy (now (order .entry)) (itemOf (now (on .entry)))) (cars (length (now (order .entry)))))
+        (now (at .entry)) (length (now (order .entry))) (now (at .exit)) ⌝ }
+{
+    if all <= FIRST_ALL_TRACKS {
+        let mut few = [0u16; FIRST_ALL_TRACKS];
+        places_with(order, on, &mut few, at);
+        return;
+    }
+    let mut standing = [0u16; ALL_TRACKS];
+    places_with(order, on, &mut standing, at);
 }

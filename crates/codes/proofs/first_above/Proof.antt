@@ -1,15 +1,16 @@
 -- The proof of `first_above`: what is left of the search finds what the whole search finds.
-use mathlib.Core.Path.{_≡_, ap, _∙_}
+use mathlib.Core.Path.{_≡_, _∙_}
 use Prim.Native.Nat.{_-_, _^_, _≤_, _<_}
 use denote.Ref.{now}
 use native.Mathlib.Omega.{arith}
 use lib.ListN.{length, getD}
 use borrow.Author.Tests.{lt-ltb, le-ltb}
+use Rattle.yard.specs.Limits.{limits, firstLimits}
 use Rattle.yard.specs.Words.{first}
 use Rattle.yard.specs.Codes.{fewestTracks}
 use Rattle.scan.proofs.Left.{left-start, left-hits, left-goes, left-ends}
 use Rattle.codes.specs.Wider.{wider, firstWider}
-use Rattle.codes.proofs.Gap.{gaps-length, told-fewest}
+use Rattle.codes.proofs.Gap.{entry-within, told-fewest}
 use Rattle.codes.proofs.first_above.Statement.{statement}
 use Rattle.codes.proofs.first_above.Tie as tie
 
@@ -24,27 +25,29 @@ loop-holds c =
     let args = c .before .before .args in
     (omega arith, left-start (wider (args .tracks) (now (args .codes))) (length (now (args .codes))) 0)
 
--- the code at hand is one of eight steps, and the table has its fewest tracks
-small : (c : tie.In-loop Inv-loop μ-loop) → getD (now (c .before .before .before .before .args .codes)) (c .before .loop .i) 0 < 2 ^ 8
+-- the table has the fewest tracks of the code at hand
+small : (c : tie.In-loop Inv-loop μ-loop) → getD (now (c .before .before .before .before .args .codes)) (c .before .loop .i) 0 < 2 ^ firstLimits .steps
 small c = c .before .before .before .before .pre .1 (c .before .loop .i) (c .loop-test .taken)
 
 shared-slice-read-wide-2 : tie.Need-shared-slice-read-wide-2 Inv-loop μ-loop
-shared-slice-read-wide-2 c = omega (arith, small (c .before .before), ap length (c .before .before .before .before .before .before .pre .0), gaps-length 8)
+shared-slice-read-wide-2 c =
+    let entry = c .before .before .before .before .before .before in
+    entry-within (now (entry .args .table)) (entry .pre .0) _ (small (c .before .before))
 
 told : (c : tie.After-wide Inv-loop μ-loop)
-    → c .wide .result ≡ fewestTracks 8
+    → c .wide .result ≡ fewestTracks (limits .steps)
     (getD (now (c .before .before .before .before .before .before .before .args .codes)) (c .before .before .before .before .loop .i) 0)
 told c =
     let at-loop = c .before .before .before .before in
     let entry = at-loop .before .before .before in
-    c .wide .ensures ∙ told-fewest (now (entry .args .table)) (getD (now (entry .args .codes)) (at-loop .loop .i) 0) (entry .pre .0)
+    c .wide .ensures ∙ told-fewest (now (entry .args .table)) (entry .pre .0) (getD (now (entry .args .codes)) (at-loop .loop .i) 0)
     (small (c .before .before .before))
 
 returns : tie.Need-returns Inv-loop μ-loop
 returns c =
     let in-loop = c .before .before .before .before in
     let args = in-loop .before .before .before .before .args in
-    let needs = fewestTracks 8 (getD (now (args .codes)) (in-loop .before .loop .i) 0) in
+    let needs = fewestTracks (limits .steps) (getD (now (args .codes)) (in-loop .before .loop .i) 0) in
     left-hits _ _ _ _ _ (in-loop .before .loop .inv .1) (in-loop .loop-test .taken)
     (lt-ltb (args .tracks) needs (omega (arith, told (c .before), c .if1 .taken)))
 
@@ -52,7 +55,7 @@ loop-again : tie.Need-loop-again Inv-loop μ-loop
 loop-again c =
     let in-loop = c .before .before .before .before in
     let args = in-loop .before .before .before .before .args in
-    let needs = fewestTracks 8 (getD (now (args .codes)) (in-loop .before .loop .i) 0) in
+    let needs = fewestTracks (limits .steps) (getD (now (args .codes)) (in-loop .before .loop .i) 0) in
     let enough = le-ltb (args .tracks) needs (omega (arith, told (c .before), c .if1 .left)) in
     (omega arith, left-goes _ _ _ _ _ (in-loop .before .loop .inv .1) (in-loop .loop-test .taken) enough)
 

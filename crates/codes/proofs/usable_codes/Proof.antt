@@ -1,17 +1,17 @@
 -- The proof of `usable_codes`: the usable codes of the steps passed stand at the front, and the ring holds what the next steps lose.
-use mathlib.Core.Path.{_≡_, refl, sym, _∙_}
+use mathlib.Core.Path.{_≡_, refl, sym, ap, _∙_}
 use Prim.Native.Nat.{suc, _+_, _-_, _^_, _≤_}
 use native.Mathlib.Nat.{two-pow-succ}
 use native.Mathlib.Omega.{arith}
 use lib.ListN.{length, length-set}
-use lib.Pow.{pow-mono, pow-pos}
+use lib.Pow.{pow-mono}
 use denote.Ref.{now}
 use Rattle.yard.specs.Limits.{limits}
-use Rattle.yard.specs.Codes.{usableCodes}
-use Rattle.yard.proofs.yards.Counting.{F-above}
+use Rattle.yard.specs.Codes.{F, usableCodes}
+use Rattle.yard.proofs.yards.Counting.{F-above, F-more}
 use Rattle.scan.specs.Front.{Front}
 use Rattle.codes.specs.Ring.{Ring}
-use Rattle.codes.proofs.Steps.{F-next, F-le, ring-first}
+use Rattle.codes.proofs.Steps.{F-next, ring-first}
 use Rattle.codes.proofs.Doubling.{written-none, written-all, written-number, written-small, written-next}
 use Rattle.codes.proofs.usable_codes.Statement.{statement}
 use Rattle.codes.proofs.usable_codes.Tie as tie
@@ -24,7 +24,7 @@ abbrev μ-loop : tie.MeasureT-loop
 μ-loop tracks steps into₀ ring₀ codes₀ step₀ into ring codes step = steps - step
 
 slice-write-into : tie.Need-slice-write-into Inv-loop μ-loop
-slice-write-into c = omega (arith, pow-pos (c .before .args .steps))
+slice-write-into c = omega (arith, F-above (c .before .args .tracks) (c .before .args .steps) (c .before .pre .0 .0))
 
 loop-holds : tie.Need-loop-holds Inv-loop μ-loop
 loop-holds c =
@@ -33,7 +33,8 @@ loop-holds c =
       refl,
       refl,
       ring-first (s .args .tracks) (s .pre .0 .0) (limits .tracks) (s .pre .0 .1),
-      written-none (s .args .tracks) (s .pre .0 .0) (now (s .args .into)) (omega (arith, pow-pos (s .args .steps))),
+      written-none (s .args .tracks) (s .pre .0 .0) (now (s .args .into))
+          (omega (arith, F-above (s .args .tracks) (s .args .steps) (s .pre .0 .0))),
     )
 
 slice-aggregate-lost : tie.Need-slice-aggregate-lost Inv-loop μ-loop
@@ -65,10 +66,10 @@ with-bit-requires c κs =
     let f = at-loop .loop .inv .4 in
     let number = written-number W h (s .pre .0 .0) f in
     let but = c .before .before .before .lost .ensures .0 in
-    let room : suc h ≤ s .args .steps = omega arith in
+    let room : suc h + (s .args .steps - suc h) ≡ s .args .steps = omega arith in
     let bit = c .before .power .ensures in (
       omega (arith, number, but, F-next W h),
-      omega (arith, number, but, F-next W h, F-le W (suc h), pow-mono room, length-set (now (s .args .into)) 0 0),
+      omega (arith, number, but, F-next W h, F-more W (suc h) (s .args .steps - suc h) (s .pre .0 .0), ap (F W) room, length-set (now (s .args .into)) 0 0),
       rw bit (written-small W h (s .pre .0 .0) f),
       bit-small (c .before),
     )

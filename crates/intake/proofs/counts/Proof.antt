@@ -2,7 +2,6 @@
 use mathlib.Core.Bool.{_&&_}
 use native.Mathlib.Nat.{suc-ne-zero}
 use lib.Dec.{leb}
-use Rattle.yard.specs.Limits.{limits}
 use Rattle.yard.specs.Answers.{says}
 use Rattle.yard.proofs.calls.Verdict.{last-is}
 use Rattle.intake.proofs.counts.Statement.{statement}
@@ -10,8 +9,8 @@ use Rattle.intake.proofs.counts.Tie as tie
 
 returns : tie.Need-returns
 returns c =
-    let steps = c .before .before .before .before .before .before .before .before .before .args .steps in
-    cc (last-is (leb 0 steps && leb steps (limits .steps)) (says 1 5 0) (suc-ne-zero 0))
+    let args = c .before .before .before .before .before .before .before .before .before .args in
+    cc (last-is (leb 0 (args .steps) && leb (args .steps) (args .most .steps)) (says 1 5 0) (suc-ne-zero 0))
 
 pub counts-spec : {M : Type 1} → statement M
 counts-spec =

@@ -1,86 +1,55 @@
--- The proof of `passes`: the passes counted and those still to be counted are all.
-use lib.Count.{ones}
-use mathlib.Core.Path.{_≡_, ap}
-use Prim.Native.Nat.{_+_, _-_, _*_, _%_, _^_, _≤_}
+-- The proof of `passes`: the set bits of all codes are those of the two halves.
+use mathlib.Core.Path.{_≡_, sym, ap, _∙_}
+use mathlib.Core.List.{List}
+use Prim.Native.Nat.{ℕ, _+_, _-_, _/_, _%_, _^_, _≤_}
 use denote.Ref.{now}
 use native.Mathlib.Omega.{arith}
-use lib.ListN.{length, drop}
+use lib.Count.{ones}
+use lib.ListN.{length, take, drop, take-append-drop, length-drop}
+use lib.Seq.{take-all}
+use borrow.Author.Needs.{needs}
+use Rattle.yard.specs.Limits.{limits}
+use Rattle.yard.proofs.general.Lists.{total-append}
 use Rattle.sorting.specs.Sums.{setBelow}
-use Rattle.scan.proofs.Running.{total-next, total-end}
 use Rattle.sorting.proofs.passes.Statement.{statement}
 use Rattle.sorting.proofs.passes.Tie as tie
 
-abbrev Inv-loop : tie.InvT-loop
-Inv-loop codes stage again₀ i₀ i-end again i = (i ≤ length codes) × (again ≤ 16 * i) × (again + setBelow stage (drop i codes) ≡ setBelow stage codes)
+-- a list up to an index, and from there on
+halves : (stage half : ℕ) (codes : List ℕ) → half ≤ length codes →
+    setBelow stage (take half codes) + setBelow stage (take (length codes - half) (drop half codes)) ≡ setBelow stage codes
+halves stage half codes l =
+    ap (λ (rest : List ℕ). setBelow stage (take half codes) + setBelow stage rest)
+    (take-all (length codes - half) (drop half codes) (omega (arith, length-drop half codes))) ∙
+    sym (ap (λ (all : List ℕ). setBelow stage all) (sym (take-append-drop half codes)) ∙
+    total-append (λ x. ones (x % 2 ^ stage)) (take half codes) (drop half codes))
 
-abbrev μ-loop : tie.MeasureT-loop
-μ-loop codes stage again₀ i₀ i-end again i = length codes - i
-
-loop-holds : tie.Need-loop-holds Inv-loop μ-loop
-loop-holds c = omega arith
-
-mul-low : tie.Need-mul-low Inv-loop μ-loop
-mul-low c = omega arith
-
-shared-slice-read-low : tie.Need-shared-slice-read-low Inv-loop μ-loop
-shared-slice-read-low c = omega arith
-
-low-requires : tie.Need-low-requires Inv-loop μ-loop
-low-requires c κs = omega arith
-
-ones-requires : tie.Need-ones-requires Inv-loop μ-loop
-ones-requires c κs = tt
-
-add-again : tie.Need-add-again Inv-loop μ-loop
-add-again c = omega arith
-
-add-i : tie.Need-add-i Inv-loop μ-loop
-add-i c = omega arith
-
-loop-less : tie.Need-loop-less Inv-loop μ-loop
-loop-less c = omega arith
-
-loop-again : tie.Need-loop-again Inv-loop μ-loop
-loop-again c =
-    let at-loop = c .before .before .before .before in
-    let stage = at-loop .before .before .args .stage in
-    let codes = now (at-loop .before .before .args .codes) in
-    let i = at-loop .loop .i in
+returns-2 : tie.Need-returns-2
+returns-2 c =
+    let at = c .before .before .before .before .before .before in
+    let codes = now (at .args .codes) in
     omega (
       arith,
-      total-next (λ x. ones (x % 2 ^ stage)) codes i (c .before .before .before .loop-test .taken),
-      c .ones .ensures .0,
-      ap ones (c .before .low .ensures),
+      c .before .before .set-below2 .ensures .0,
+      c .set-below3 .ensures .0,
+      halves (at .args .stage) (limits .cars / 2) codes (omega arith),
     )
-
-cast-result : tie.Need-cast-result Inv-loop μ-loop
-cast-result c = omega arith
-
-add-result : tie.Need-add-result Inv-loop μ-loop
-add-result c = omega arith
-
-returns : tie.Need-returns Inv-loop μ-loop
-returns c = omega (
-  arith,
-  total-end (λ x. ones (x % 2 ^ c .before .before .before .args .stage)) (now (c .before .before .before .args .codes))
-      (c .before .loop .i) (c .loop-test .left),
-)
 
 pub passes-spec : {M : Type 1} → statement M
 passes-spec =
     tie.close
     (tie.spec
-    Inv-loop
-    μ-loop
-    loop-holds
-    mul-low
-    shared-slice-read-low
-    low-requires
-    ones-requires
-    add-again
-    add-i
-    loop-less
-    loop-again
-    cast-result
-    add-result
-    returns)
+    (λ c κs. search needs)
+    (λ c. omega arith)
+    (λ c. omega arith)
+    (λ c. search needs)
+    (λ c. search needs)
+    (λ c. search needs)
+    (λ c κs. search needs)
+    (λ c. search needs)
+    (λ c. search needs)
+    (λ c. search needs)
+    (λ c. search needs)
+    (λ c κs. search needs)
+    (λ c. omega arith)
+    (λ c. omega arith)
+    returns-2)
