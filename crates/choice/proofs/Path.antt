@@ -4,6 +4,7 @@ use mathlib.Core.Logic.{⊎-elim}
 use Prim.Native.Nat.{ℕ, zero, suc, _+_, _-_, _*_, _≤_, _<_}
 use native.Mathlib.Nat.{mul-le-mul-left, add-sub-of-le, zero-add}
 use native.Mathlib.Omega.{arith}
+use Rattle.yard.specs.Limits.{firstLimits}
 use Rattle.yard.specs.Words.{total, upFrom}
 use Rattle.yard.proofs.general.Numbers.{le-or-lt}
 use Rattle.yard.proofs.general.Lists.{total-same, upFrom-bounds}
@@ -13,8 +14,8 @@ use Rattle.choice.specs.Rows.{firstLeast, value, priced}
 use Rattle.choice.proofs.FirstLeast.{firstLeast-from, firstLeast-to, firstLeast-least, firstLeast-first}
 
 -- no block costs more, with those behind it, than the weights from it on allow
-pub priced-small : (w c : ℕ → ℕ) (spare : ℕ) (left : ℕ → ℕ) → ((b : ℕ) → w b + left (suc b) ≤ left b) → ((i : ℕ) → c i ≤ 8) →
-    (k b d : ℕ) → priced w c spare k b d ≤ 8 * left b
+pub priced-small : (w c : ℕ → ℕ) (spare : ℕ) (left : ℕ → ℕ) → ((b : ℕ) → w b + left (suc b) ≤ left b) → ((i : ℕ) → c i ≤ firstLimits .steps) →
+    (k b d : ℕ) → priced w c spare k b d ≤ firstLimits .steps * left b
 priced-small w c spare left falls small zero b d = omega (arith, mul-le-mul-left (w b) (small (b + d)), falls b)
 priced-small w c spare left falls small (suc k) b d =
     let e = firstLeast (priced w c spare k (suc b)) (spare - d) d in

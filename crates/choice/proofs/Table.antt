@@ -7,10 +7,11 @@ use native.Mathlib.Nat.{eq-or-lt-of-le, mul-comm, mul-add, suc-mul, mul-le-mul-l
 use native.Mathlib.Omega.{arith}
 use lib.ListN.{length, getD, take, drop, set, length-set, take-append-drop, List·getD-eq-default}
 use lib.Seq.{getD-set-same, getD-set-other}
+use Rattle.yard.specs.Limits.{firstLimits}
 use Rattle.yard.specs.Night.{sum}
 use Rattle.yard.proofs.general.Numbers.{le-or-lt}
 use Rattle.yard.proofs.general.Lists.{total-append}
-use Rattle.choice.specs.Choice.{picksMost, Choosable}
+use Rattle.choice.specs.Choice.{halfOfNumbers, picksMost, Choosable}
 use Rattle.choice.specs.Rows.{firstLeast, together, Row, spareOf, valueOf, pricedOf, Table}
 use Rattle.choice.proofs.FirstLeast.{firstLeast-to, firstLeast-same, Held}
 use Rattle.choice.proofs.Path.{priced-small}
@@ -70,16 +71,26 @@ module _ {g : ℕ → ℕ} {width at : ℕ} {before begun : List ℕ} where
 
 -- ---- all blocks
 
--- two factors that add up to 257 at most
-product-small : (a b : ℕ) → a + b ≤ 257 → a * b ≤ picksMost
-product-small a b l = ⊎-elim (λ m. half a b m l) (λ m. omega (arith, mul-comm a b, half b a (omega arith) (omega arith))) (le-or-lt a 128)
+-- two factors that add up to h and h + 1 at most
+product-small : (h a b : ℕ) → a + b ≤ h + (h + 1) → a * b ≤ h * (h + 1)
+product-small h a b l = ⊎-elim (λ m. half a b m l) (λ m. omega (arith, mul-comm a b, half b a (omega arith) (omega arith))) (le-or-lt a h)
   where
-    half : (a b : ℕ) → a ≤ 128 → a + b ≤ 257 → a * b ≤ picksMost
+    half : (a b : ℕ) → a ≤ h → a + b ≤ h + (h + 1) → a * b ≤ h * (h + 1)
     half a b l m =
-        let rest = 128 - a in
-        let more : b ≤ 129 + rest = omega arith in
-        let few : a ≤ 129 = omega arith in
-        omega (arith, mul-le-mul-left a more, mul-add a 129 rest, mul-le-mul-right rest few)
+        let rest = h - a in
+        let more : b ≤ (h + 1) + rest = omega arith in
+        let few : a ≤ h + 1 = omega arith in
+        let whole : a + rest ≡ h = omega arith in
+        omega (
+          arith,
+          mul-le-mul-left a more,
+          mul-add a (h + 1) rest,
+          mul-le-mul-right rest few,
+          mul-comm a (h + 1),
+          mul-add (h + 1) a rest,
+          ap (λ (k : ℕ). (h + 1) * k) whole,
+          mul-comm (h + 1) h,
+        )
 
 -- what is left of a sum, without its first item and as a whole
 sum-falls : (l : List ℕ) (b : ℕ) → getD l b 0 + sum (drop (suc b) l) ≤ sum (drop b l)
@@ -106,7 +117,7 @@ module _ {weights costs : List ℕ} (ch : Choosable weights costs) where
         arith,
         suc-mul b width,
         mul-le-mul-right width l,
-        product-small (length weights) width (omega (arith, ch .enough, ch .numbers)),
+        product-small halfOfNumbers (length weights) width (omega (arith, ch .enough, ch .numbers)),
       )
 
   pub filled-none : {behind picks : List ℕ} → ((d : ℕ) → d ≤ spareOf weights costs → getD behind d 0 ≡ 0) →
@@ -130,7 +141,7 @@ module _ {weights costs : List ℕ} (ch : Choosable weights costs) where
           ch .cars,
         )
       where
-        small : (i : ℕ) → getD costs i 0 ≤ 8
+        small : (i : ℕ) → getD costs i 0 ≤ firstLimits .steps
         small i = ⊎-elim (λ far. omega (arith, List·getD-eq-default costs 0 far)) (λ near. ch .bits i near) (le-or-lt (length costs) i)
 
     pub filled-next : {width : ℕ} {after now : List ℕ} → width ≡ spareOf weights costs + 1 →

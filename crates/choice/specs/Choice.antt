@@ -1,11 +1,11 @@
 -- The cheapest rising choice: blocks in a row, each of a weight, take numbers that rise from block to block, and each number costs
 -- something. Blocks and numbers count from 0.
-use Prim.Native.Nat.{ℕ, suc, _*_, _^_, _≤_, _<_}
+use Prim.Native.Nat.{ℕ, suc, _+_, _*_, _/_, _^_, _≤_, _<_}
 use mathlib.Core.Path.{_≡_}
 use mathlib.Core.List.{List}
 use lib.ListN.{length, getD}
 use Rattle.yard.specs.Words.{total, upFrom}
-use Rattle.yard.specs.Limits.{limits}
+use Rattle.yard.specs.Limits.{firstLimits}
 use Rattle.yard.specs.Night.{sum}
 
 -- a choice: each of B blocks takes a number below K, and each a greater one than the block before
@@ -27,14 +27,17 @@ pub record Cheapest (weights costs : List ℕ) (x : ℕ → ℕ) : Type 0 where
   pub smallest : (y : ℕ → ℕ) → Rising (length costs) (length weights) y → billOf weights costs y ≡ billOf weights costs x →
       (b : ℕ) → b < length weights → ((c : ℕ) → c < b → y c ≡ x c) → x b ≤ y b
 
--- the most places that a table of picks takes: blocks times the choices of one, at most 128 times 129 where there are 256 numbers
-abbrev pub picksMost : ℕ
-picksMost = 16512
+-- the most places that a table of picks takes: blocks times the choices of one, which together are one more than the numbers of the most steps
+abbrev pub halfOfNumbers : ℕ
+halfOfNumbers = 2 ^ firstLimits .steps / 2
 
--- blocks and numbers as the codes and cars of a night make them: at least one block, a number for each, and nothing beyond the limits
+abbrev pub picksMost : ℕ
+picksMost = halfOfNumbers * (halfOfNumbers + 1)
+
+-- blocks and numbers as the codes and cars of a night make them: at least one block, a number for each, and nothing beyond document 01's limits
 pub record Choosable (weights costs : List ℕ) : Type 0 where
   pub some : 1 ≤ length weights
   pub enough : length weights ≤ length costs
-  pub numbers : length costs ≤ 2 ^ limits .steps
-  pub bits : (i : ℕ) → i < length costs → getD costs i 0 ≤ limits .steps
-  pub cars : sum weights ≤ limits .cars
+  pub numbers : length costs ≤ 2 ^ firstLimits .steps
+  pub bits : (i : ℕ) → i < length costs → getD costs i 0 ≤ firstLimits .steps
+  pub cars : sum weights ≤ firstLimits .cars

@@ -2,20 +2,20 @@
 ghost use mathlib.Core.Path.{_≡_};
 ghost use Prim.Native.Nat.{ℕ, suc, _+_, _*_, _^_, _≤_, _<_};
 ghost use lib.ListN.{length, getD};
-ghost use Rattle.yard.specs.Limits.{limits};
+ghost use Rattle.yard.specs.Limits.{firstLimits};
 ghost use Rattle.choice.specs.Choice.{Cheapest, picksMost, Choosable};
 ghost use Rattle.choice.specs.Rows.{together, Row, spareOf, Table, reached};
 
 // The numbers of the most steps.
-const NUMBERS: usize = 1 << yard::STEPS;
+const NUMBERS: usize = 1 << yard::FIRST_STEPS;
 
 // The most places of the table of picks; they are `picksMost` (specs/Choice.antt).
-pub const PICKS: usize = 16512;
+pub const PICKS: usize = NUMBERS / 2 * (NUMBERS / 2 + 1);
 
 // One block, from the last choice to the first: the row of the least costs behind it becomes its own, in place, and each pick is written.
 // Of choices that cost the same the smaller is taken, since it is met later. This is where the time goes.
 fn row(weights: &[u16], costs: &[u16], b: usize, width: usize, behind: &mut [u16], picks: &mut [u8])
-    requires { ⌜ (b < length (now weights)) × (b + width ≤ length (now costs)) × (width ≤ 2 ^ limits .steps) × (width ≤ length (now behind)) ×
+    requires { ⌜ (b < length (now weights)) × (b + width ≤ length (now costs)) × (width ≤ 2 ^ firstLimits .steps) × (width ≤ length (now behind)) ×
         (b * width + width ≤ length (now picks)) × ((d : ℕ) → d < width → together (now weights) (now costs) b (now behind) d ≤ 65535) ⌝ }
     ensures { λ _. ⌜ Row (together (now (weights .entry)) (now (costs .entry)) b (now (behind .entry))) width 0 (b * width) (now (picks .entry))
         (now (behind .exit)) (now (picks .exit)) ⌝ }
@@ -52,7 +52,7 @@ fn rows(weights: &[u16], costs: &[u16], width: usize, picks: &mut [u8])
 
 // The choice that the table leads to, from the first block on.
 fn follow(picks: &[u8], blocks: usize, width: usize, chosen: &mut [u16])
-    requires { ⌜ (blocks ≤ 2 ^ limits .steps) × (blocks ≤ length (now chosen)) ×
+    requires { ⌜ (blocks ≤ 2 ^ firstLimits .steps) × (blocks ≤ length (now chosen)) ×
         ((b : ℕ) → b < blocks → b * width + reached (now picks) width b < length (now picks)) ⌝ }
     ensures { λ _. ⌜ ((b : ℕ) → b < blocks → getD (now (chosen .exit)) b 0 ≡ b + reached (now (picks .entry)) width (suc b)) ⌝ }
 {

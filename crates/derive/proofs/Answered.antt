@@ -10,6 +10,7 @@ use lib.Dec.{leb, ltb}
 use lib.ListN.{length, drop}
 use borrow.Author.Tests.{le-leb, lt-leb, leb-true}
 use Rattle.yard.specs.declared.Answer.{Answer}
+use Rattle.yard.specs.declared.Limits.{Limits}
 use Rattle.yard.specs.Limits.{limits}
 use Rattle.yard.specs.Night.{Night, Plan}
 use Rattle.yard.specs.Replay.{passes, pullSize, firstOverfull}
@@ -114,30 +115,31 @@ plan-refused p {needed} {limit} {steps} {before} {r} same says-so m =
 abbrev behind-counts : Night → ℕ → List Answer
 behind-counts n size = nightTests n ++ (listTest 3 (leb (length (n .inbound)) size) ∷ [])
 
-module _ (n : Night) (limit size : ℕ) {counted : Answer} (is : counted ≡ verdict (nightCounts limits n limit) (says 0 0 0)) where
-  pub given-counts : (counted .number ≡ 0 → ⊥) → counted ≡ verdict (firstTests n limit size) (says 0 0 0)
-  given-counts h = stops-all (nightCounts limits n limit) (behind-counts n size) (says 0 0 0) counted is h
+module _ (L : Limits) (n : Night) (limit size : ℕ) {counted : Answer} (is : counted ≡ verdict (nightCounts L n limit) (says 0 0 0)) where
+  pub given-counts : (counted .number ≡ 0 → ⊥) → counted ≡ verdict (firstTests L n limit size) (says 0 0 0)
+  given-counts h = stops-all (nightCounts L n limit) (behind-counts n size) (says 0 0 0) counted is h
 
   pub given-lists :
       {r : Answer} → counted .number ≡ 0 → r ≡ verdict (verdict (nightTests n) (says 0 0 0) ∷ []) (listTest 3 (leb (length (n .inbound)) size)) →
-      r ≡ verdict (firstTests n limit size) (says 0 0 0)
+      r ≡ verdict (firstTests L n limit size) (says 0 0 0)
   given-lists {r} z e =
       let buffer : Answer = listTest 3 (leb (length (n .inbound)) size) in
       let last = last-is (leb (length (n .inbound)) size) (says 4 3 0) (suc-ne-zero 3) in
-      goes-on-all (nightCounts limits n limit) (behind-counts n size) (says 0 0 0) counted is r z
+      goes-on-all (nightCounts L n limit) (behind-counts n size) (says 0 0 0) counted is r z
       (e ∙
       (verdict-nested (nightTests n) buffer ∙
       (ap (verdict (nightTests n)) last ∙ sym (verdict-append (nightTests n) (buffer ∷ []) (says 0 0 0)))))
 
--- the answer of those tests: refused, it is that of derive; passed, the plan answers
-module _ (n : Night) (limit : ℕ) (before : List ℕ) {given : Answer} (is : given ≡ verdict (firstTests n limit (length before)) (says 0 0 0)) where
-  pub given-passed : given .number ≡ 0 → DeriveGiven limits n limit (length before)
+-- passed, they tell what is given
+module _ (L : Limits) (n : Night) (limit : ℕ) (before : List ℕ) {given : Answer}
+    (is : given ≡ verdict (firstTests L n limit (length before)) (says 0 0 0)) where
+  pub given-passed : given .number ≡ 0 → DeriveGiven L n limit (length before)
   given-passed z =
-      let counted = passed-append (nightCounts limits n limit) (behind-counts n (length before)) .0 all in
+      let counted = passed-append (nightCounts L n limit) (behind-counts n (length before)) .0 all in
       let lists = passed-append (nightTests n) (listTest 3 fits ∷ []) .0 (counted .1) in
       record {
         given = record {
-          counts = counts-passed limits (length (n .inbound)) (length (n .lengths)) (n .tracks) (n .room) limit .0 (counted .0);
+          counts = counts-passed L (length (n .inbound)) (length (n .lengths)) (n .tracks) (n .room) limit .0 (counted .0);
           lists = lists-passed n .0 (lists .0);
         };
         buffer = leb-true (length (n .inbound)) (length before) (list-passed 3 fits .0 (lists .1 .0));
@@ -146,9 +148,11 @@ module _ (n : Night) (limit : ℕ) (before : List ℕ) {given : Answer} (is : gi
       fits : Bool
       fits = leb (length (n .inbound)) (length before)
 
-      all : Passed (firstTests n limit (length before))
-      all = verdict-passes (firstTests n limit (length before)) (says 0 0 0) .0 (ap (λ (a : Answer). a .number) (sym is) ∙ z) .0
+      all : Passed (firstTests L n limit (length before))
+      all = verdict-passes (firstTests L n limit (length before)) (says 0 0 0) .0 (ap (λ (a : Answer). a .number) (sym is) ∙ z) .0
 
+-- refused, their answer is that of derive; passed, the plan answers
+module _ (n : Night) (limit : ℕ) (before : List ℕ) {given : Answer} (is : given ≡ verdict (firstTests limits n limit (length before)) (says 0 0 0)) where
   own-tests : List Answer
   own-tests = limitTest (stepsNeeded n) limit ∷ roomTest (derivedPlan n) ∷ []
 
@@ -158,7 +162,7 @@ module _ (n : Night) (limit : ℕ) (before : List ℕ) {given : Answer} (is : gi
   pub derive-refused : (given .number ≡ 0 → ⊥) → Derives n limit before given before
   unfolding deriveAnswer own-tests done
   derive-refused h =
-      let same : given ≡ deriveAnswer limits n limit (length before) = stops-all (firstTests n limit (length before)) own-tests done given is h in
+      let same : given ≡ deriveAnswer limits n limit (length before) = stops-all (firstTests limits n limit (length before)) own-tests done given is h in
       record {
         answer = same;
         codes =
@@ -169,5 +173,6 @@ module _ (n : Night) (limit : ℕ) (before : List ℕ) {given : Answer} (is : gi
       → Derives n limit before r after
   unfolding deriveAnswer derivedPlan own-tests done
   derive-planned {r} z p =
-      let same : r ≡ deriveAnswer limits n limit (length before) = goes-on-all (firstTests n limit (length before)) own-tests done given is r z (p .answer) in
+      let same : r ≡ deriveAnswer limits n limit (length before) =
+      goes-on-all (firstTests limits n limit (length before)) own-tests done given is r z (p .answer) in
       record { answer = same; codes = p .codes ∙ ap (λ (a : Answer). written a (derivedCodes n) before) same }

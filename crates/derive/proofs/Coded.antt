@@ -17,19 +17,24 @@ use Rattle.yard.specs.Calls.{DeriveGiven}
 use Rattle.yard.proofs.yards.DerivedPlan.{map-item, length-by-car, derived-length, breaks-fit}
 use Rattle.scan.specs.Front.{Under}
 use Rattle.breaks.specs.Numbers.{Numbers}
+use Rattle.codes.proofs.Steps.{fewest-few}
 use Rattle.derive.specs.Plans.{Needy, Needs}
 
 module _ (lengths inbound : List ℕ) (closed : Bool) (tracks : ℕ) where
-  pub needs-all : {m more r : ℕ} {list : List ℕ} → Numbers lengths inbound m list → more ≡ tally closed → r ≡ fewestSteps tracks (m + more)
-      → Needs lengths inbound closed tracks r list
+  pub needs-all : {m more r : ℕ} {list : List ℕ} → Numbers lengths inbound m list → more ≡ tally closed → m + more ≤ limits .cars
+      → r ≡ fewestSteps tracks (m + more) → Needs lengths inbound closed tracks r list
   unfolding stepsNeeded
-  needs-all k one e =
-      record { steps = λ room. e ∙ ap₂ (λ (c d : ℕ). fewestSteps tracks (c + d)) (k .most) one; listed = k .listed }
+  needs-all {m} {more} k one l e =
+      record {
+        steps = λ room. e ∙ ap₂ (λ (c d : ℕ). fewestSteps tracks (c + d)) (k .most) one;
+        few = omega (arith, ap (F tracks) e, fewest-few tracks (m + more) (limits .cars) (omega arith) l);
+        listed = k .listed;
+      }
 
 -- a night whose tests were passed has what its breaks ask
-pub given-needy : (n : Night) {limit size : ℕ} → DeriveGiven limits n limit size → Needy (n .lengths) (n .inbound) (n .tracks) (limits .cars)
-given-needy n g =
-    record { lists = g .given .lists; cars = g .given .counts .cars; tracks = g .given .counts .tracks; room = g .given .counts .cars .1 }
+pub given-needy : (n : Night) {limit size room : ℕ} → DeriveGiven limits n limit size → length (n .inbound) ≤ room
+    → Needy (n .lengths) (n .inbound) (n .tracks) room
+given-needy n g l = record { lists = g .given .lists; cars = g .given .counts .cars; tracks = g .given .counts .tracks; room = l }
 
 module _ (n : Night) (f : Listed (n .lengths) (n .inbound)) (pos : 0 < n .tracks) where
   module _ {steps : ℕ} {list : List ℕ} (k : Needs (n .lengths) (n .inbound) (n .closed) (n .tracks) steps list) where

@@ -11,7 +11,7 @@ use lib.ListN.{length, take, drop}
 use lib.Seq.{ext-getD}
 use borrow.Author.Tests.{eqb-true, eqb-false}
 use Rattle.yard.specs.declared.Answer.{Answer}
-use Rattle.yard.specs.Limits.{limits}
+use Rattle.yard.specs.Limits.{firstLimits}
 use Rattle.yard.specs.Words.{first}
 use Rattle.yard.specs.Night.{Night, itemOf}
 use Rattle.yard.specs.Replay.{yardAt, passes, pullSize}
@@ -84,76 +84,76 @@ module _ (n : Night) (h : ℕ) (codes : List ℕ) (size : ℕ) where
   abbrev done : Answer
   done = says 0 h (passes (planIn n h codes) h)
 
-  sound : Sound (fewestAsks limits n h codes size)
+  sound : Sound (fewestAsks firstLimits n h codes size)
   sound =
-      opening-sound limits n h [] (fewestOwn n h codes size) tt
+      opening-sound firstLimits n h [] (fewestOwn n h codes size) tt
       (λ given. (
         buffer-right 3 (length (n .inbound)) size,
         λ _. (steps-right n (given .lists) (given .counts .tracks .0) (given .counts .trains .0) h, λ _. (room-right (planIn n h codes), λ _. tt)),
       ))
 
-  accepts : (fewestAnswer limits n h codes size .number ≡ 0) ↔ (DeriveGiven limits n h size × SortedIn n h × HasRoom (planIn n h codes))
+  accepts : (fewestAnswer firstLimits n h codes size .number ≡ 0) ↔ (DeriveGiven firstLimits n h size × SortedIn n h × HasRoom (planIn n h codes))
   unfolding fewestAnswer
   accepts =
-      let exactly = accepted-exactly done refl (fewestAsks limits n h codes size) sound in
-      let parted = holds-append (first-asks limits n h size) (stepsAsk n h ∷ roomAsk (planIn n h codes) ∷ []) in (
+      let exactly = accepted-exactly done refl (fewestAsks firstLimits n h codes size) sound in
+      let parted = holds-append (first-asks firstLimits n h size) (stepsAsk n h ∷ roomAsk (planIn n h codes) ∷ []) in (
         λ e.
             let (front, more) = parted .0 (exactly .0 e) in
             let (sorted, more) = more in
-            (first-hold limits n h size .0 front, sorted, more .0),
-        λ (given, sorted, room). exactly .1 (parted .1 (first-hold limits n h size .1 given, (sorted, (room, tt)))),
+            (first-hold firstLimits n h size .0 front, sorted, more .0),
+        λ (given, sorted, room). exactly .1 (parted .1 (first-hold firstLimits n h size .1 given, (sorted, (room, tt)))),
       )
 
-  refuses : (k a b : ℕ) → 0 < k → (fewestAnswer limits n h codes size ≡ says k a b) ↔ FirstFails k a b (fewestAsks limits n h codes size)
+  refuses : (k a b : ℕ) → 0 < k → (fewestAnswer firstLimits n h codes size ≡ says k a b) ↔ FirstFails k a b (fewestAsks firstLimits n h codes size)
   unfolding fewestAnswer
-  refuses k a b pos = refused-exactly done refl k a b pos (fewestAsks limits n h codes size) sound
+  refuses k a b pos = refused-exactly done refl k a b pos (fewestAsks firstLimits n h codes size) sound
 
   refuses-steps : (a b : ℕ)
-      → (fewestAnswer limits n h codes size ≡ says 5 a b) ↔ (DeriveGiven limits n h size × (SortedIn n h → ⊥) × Least (SortedIn n) a × (b ≡ 0))
+      → (fewestAnswer firstLimits n h codes size ≡ says 5 a b) ↔ (DeriveGiven firstLimits n h size × (SortedIn n h → ⊥) × Least (SortedIn n) a × (b ≡ 0))
   unfolding fewestAnswer
   refuses-steps a b =
       let exactly =
-      refused-at done refl (first-asks limits n h size) (stepsAsk n h) (roomAsk (planIn n h codes) ∷ []) (omega arith) sound
+      refused-at done refl (first-asks firstLimits n h size) (stepsAsk n h) (roomAsk (planIn n h codes) ∷ []) (omega arith) sound
       (omega arith) (omega arith) a b in (
-        λ e. let (front, none, told) = exactly .0 e in (first-hold limits n h size .0 front, none, told .0, told .1),
-        λ (given, none, least, unused). exactly .1 (first-hold limits n h size .1 given, none, (least, unused)),
+        λ e. let (front, none, told) = exactly .0 e in (first-hold firstLimits n h size .0 front, none, told .0, told .1),
+        λ (given, none, least, unused). exactly .1 (first-hold firstLimits n h size .1 given, none, (least, unused)),
       )
 
   refuses-room : (a b : ℕ)
-      → (fewestAnswer limits n h codes size ≡ says 6 a b) ↔
-      (DeriveGiven limits n h size × SortedIn n h × Least (OverfullStep (planIn n h codes)) a × (b ≡ pullSize (planIn n h codes) a))
+      → (fewestAnswer firstLimits n h codes size ≡ says 6 a b) ↔
+      (DeriveGiven firstLimits n h size × SortedIn n h × Least (OverfullStep (planIn n h codes)) a × (b ≡ pullSize (planIn n h codes) a))
   unfolding fewestAnswer
   refuses-room a b =
-      let before = first-asks limits n h size ++ (stepsAsk n h ∷ []) in
-      let parted = holds-append (first-asks limits n h size) (stepsAsk n h ∷ []) in
+      let before = first-asks firstLimits n h size ++ (stepsAsk n h ∷ []) in
+      let parted = holds-append (first-asks firstLimits n h size) (stepsAsk n h ∷ []) in
       let exactly = refused-at done refl before (roomAsk (planIn n h codes)) [] (omega arith) sound (omega arith) tt a b in (
         λ e.
             let (front, none, told) = exactly .0 e in
             let (given, sorted) = parted .0 front in
-            (first-hold limits n h size .0 given, sorted .0, told .0, told .1),
+            (first-hold firstLimits n h size .0 given, sorted .0, told .0, told .1),
         λ (given, sorted, overfull, cars).
             exactly .1
-            (parted .1 (first-hold limits n h size .1 given, (sorted, tt)), overfull-full (planIn n h codes) a (overfull .holds), (overfull, cars)),
+            (parted .1 (first-hold firstLimits n h size .1 given, (sorted, tt)), overfull-full (planIn n h codes) a (overfull .holds), (overfull, cars)),
       )
 
 -- codes that are the same wherever there are any give the same answer
-answer-same : (n : Night) (h : ℕ) (these those : List ℕ) (size : ℕ) → (DeriveGiven limits n h size → SortedIn n h → these ≡ those)
-    → fewestAnswer limits n h these size ≡ fewestAnswer limits n h those size
+answer-same : (n : Night) (h : ℕ) (these those : List ℕ) (size : ℕ) → (DeriveGiven firstLimits n h size → SortedIn n h → these ≡ those)
+    → fewestAnswer firstLimits n h these size ≡ fewestAnswer firstLimits n h those size
 unfolding fewestAnswer
 answer-same n h these those size same =
     verdict-alike (answers asks) (answers (roomAsk (planIn n h these) ∷ [])) (answers (roomAsk (planIn n h those) ∷ []))
     (done n h these size) (done n h those size)
     (λ passed.
     let all = accepted-exactly (says 0 0 0) refl asks asks-sound .0 (ap (λ (a : Answer). a .number) (verdict-passed (answers asks) (says 0 0 0) passed)) in
-    let (front, sorted) = holds-append (first-asks limits n h size) (stepsAsk n h ∷ []) .0 all in
-    ap (λ (l : List ℕ). verdict (answers (roomAsk (planIn n h l) ∷ [])) (done n h l size)) (same (first-hold limits n h size .0 front) (sorted .0)))
+    let (front, sorted) = holds-append (first-asks firstLimits n h size) (stepsAsk n h ∷ []) .0 all in
+    ap (λ (l : List ℕ). verdict (answers (roomAsk (planIn n h l) ∷ [])) (done n h l size)) (same (first-hold firstLimits n h size .0 front) (sorted .0)))
   where
     asks : List Ask
-    asks = opening limits n h [] (bufferAsk 3 (length (n .inbound)) size ∷ stepsAsk n h ∷ [])
+    asks = opening firstLimits n h [] (bufferAsk 3 (length (n .inbound)) size ∷ stepsAsk n h ∷ [])
 
     asks-sound : Sound asks
     asks-sound =
-        opening-sound limits n h [] (bufferAsk 3 (length (n .inbound)) size ∷ stepsAsk n h ∷ []) tt
+        opening-sound firstLimits n h [] (bufferAsk 3 (length (n .inbound)) size ∷ stepsAsk n h ∷ []) tt
         (λ given. (
           buffer-right 3 (length (n .inbound)) size,
           λ _. (steps-right n (given .lists) (given .counts .tracks .0) (given .counts .trains .0) h, λ _. tt),
@@ -163,7 +163,7 @@ answer-same n h these those size same =
 
 -- all that it asks: a well-formed night and a buffer, and codes with the fewest passes, for which there is room
 pub record Findable (n : Night) (h size : ℕ) : Type 0 where
-  pub given : DeriveGiven limits n h size
+  pub given : DeriveGiven firstLimits n h size
   pub codes : List ℕ
   pub fewest : FewestPasses n h codes
   pub room : HasRoom (planIn n h codes)
@@ -181,7 +181,7 @@ pub record Told (n : Night) (h : ℕ) (before : List ℕ) (r : Answer) (after : 
   pub rest : drop (length (n .inbound)) after ≡ drop (length (n .inbound)) before
 
 module _ (n : Night) (h : ℕ) (before : List ℕ) (r : Answer) (after : List ℕ) (promise : FindsFewest n h before r after) where
-  same-number : r .number ≡ fewestAnswer limits n h (promise .found) (length before) .number
+  same-number : r .number ≡ fewestAnswer firstLimits n h (promise .found) (length before) .number
   same-number = ap (λ (a : Answer). a .number) (promise .answer)
 
   -- it accepts exactly if all that it asks holds
@@ -208,7 +208,7 @@ module _ (n : Night) (h : ℕ) (before : List ℕ) (r : Answer) (after : List �
         rest = front-left (promise .found) before wrote size;
       }
     where
-      accepted : DeriveGiven limits n h (length before) × SortedIn n h × HasRoom (planIn n h (promise .found))
+      accepted : DeriveGiven firstLimits n h (length before) × SortedIn n h × HasRoom (planIn n h (promise .found))
       accepted = accepts n h (promise .found) (length before) .0 (sym same-number ∙ z)
 
       few : FewestPasses n h (promise .found)
@@ -220,7 +220,7 @@ module _ (n : Night) (h : ℕ) (before : List ℕ) (r : Answer) (after : List �
       answered : r ≡ says 0 h (passes (planIn n h (promise .found)) h)
       answered =
           promise .answer ∙
-          verdict-done (answers (fewestAsks limits n h (promise .found) (length before))) (done n h (promise .found) (length before)) (sym same-number ∙ z)
+          verdict-done (answers (fewestAsks firstLimits n h (promise .found) (length before))) (done n h (promise .found) (length before)) (sym same-number ∙ z)
 
       wrote : after ≡ onto (promise .found) before
       wrote = promise .codes ∙ written-accepted r (promise .found) before z
@@ -232,25 +232,25 @@ module _ (n : Night) (h : ℕ) (before : List ℕ) (r : Answer) (after : List �
       rolled = ap (λ (l : List ℕ). yardAt (planIn n h l) h .rolled) codes
 
   -- it refuses with k, A and B exactly if the first ask that does not hold has number k, and tells A and B
-  pub call-refuses : (k a b : ℕ) → 0 < k → (r ≡ says k a b) ↔ FirstFails k a b (fewestAsks limits n h (promise .found) (length before))
+  pub call-refuses : (k a b : ℕ) → 0 < k → (r ≡ says k a b) ↔ FirstFails k a b (fewestAsks firstLimits n h (promise .found) (length before))
   call-refuses k a b pos = told-alike (promise .answer) (refuses n h (promise .found) (length before) k a b pos)
 
   -- 3 comes exactly if the counts are well formed and the inbound list is the first thing at fault
-  pub call-listing : (a b : ℕ) → (r ≡ says 3 a b) ↔ InboundWrong limits n h a b
+  pub call-listing : (a b : ℕ) → (r ≡ says 3 a b) ↔ InboundWrong firstLimits n h a b
   call-listing a b =
       let refused = call-refuses 3 a b (omega arith) in
-      let wrong = call-wrong limits n h (fewestOwn n h (promise .found) (length before)) (omega arith) a b in
+      let wrong = call-wrong firstLimits n h (fewestOwn n h (promise .found) (length before)) (omega arith) a b in
       (λ e. wrong .0 (refused .0 e), λ w. refused .1 (wrong .1 w))
 
   -- 5 comes exactly if the tests 1 to 4 are passed and no codes of these steps sort the night's cars; A is the least number of steps for
   -- which some do
-  pub call-steps : (a b : ℕ) → (r ≡ says 5 a b) ↔ (DeriveGiven limits n h (length before) × (SortedIn n h → ⊥) × Least (SortedIn n) a × (b ≡ 0))
+  pub call-steps : (a b : ℕ) → (r ≡ says 5 a b) ↔ (DeriveGiven firstLimits n h (length before) × (SortedIn n h → ⊥) × Least (SortedIn n) a × (b ≡ 0))
   call-steps a b = told-alike (promise .answer) (refuses-steps n h (promise .found) (length before) a b)
 
   -- 6 comes exactly if the tests 1 to 4 are passed and the codes with the fewest passes, which there are then, overfill a track: A is the
   -- first step that does, B what it finds there
   pub call-room : (a b : ℕ) → (r ≡ says 6 a b) ↔
-      (DeriveGiven limits n h (length before) ×
+      (DeriveGiven firstLimits n h (length before) ×
       ((codes : List ℕ) × FewestPasses n h codes × Least (OverfullStep (planIn n h codes)) a × (b ≡ pullSize (planIn n h codes) a)))
   call-room a b =
       let exactly = told-alike (promise .answer) (refuses-room n h (promise .found) (length before) a b) in (
@@ -279,7 +279,7 @@ pub finds-one : (n : Night) (h : ℕ) (before : List ℕ) (r s : Answer) (after 
     → FindsFewest n h before s other → (r ≡ s) × (after ≡ other)
 finds-one n h before r s after other x y = (answer, go (eqb (r .number) 0) refl)
   where
-    codes : DeriveGiven limits n h (length before) → SortedIn n h → x .found ≡ y .found
+    codes : DeriveGiven firstLimits n h (length before) → SortedIn n h → x .found ≡ y .found
     codes given sorted = fewest-one n h (x .found) (y .found) (x .fewest given sorted) (y .fewest given sorted)
 
     answer : r ≡ s

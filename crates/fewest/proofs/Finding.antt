@@ -8,7 +8,7 @@ use lib.Count.{ones}
 use lib.ListN.{length, getD, take, length-append}
 use lib.Seq.{take-at}
 use Rattle.yard.specs.declared.Answer.{Answer}
-use Rattle.yard.specs.Limits.{limits}
+use Rattle.yard.specs.Limits.{firstLimits}
 use Rattle.yard.specs.Night.{Night, cars, itemOf, breaksBefore, mostBreaks}
 use Rattle.yard.specs.Codes.{F, allowedCodes, codeNumber}
 use Rattle.yard.specs.Derived.{stepsNeeded}
@@ -20,7 +20,8 @@ use Rattle.yard.proofs.yards.PlanYard.{items}
 use Rattle.derive.specs.Plans.{Needs, Settles}
 use Rattle.derive.proofs.Answered.{plan-refused, plan-settled}
 use Rattle.fewest.specs.Fewest.{planIn, FewestPasses}
-use Rattle.fewest.specs.Trains.{AllBlocked, AllChosen, Coded, Found}
+use Rattle.fewest.specs.Found.{Found}
+use Rattle.blocks.specs.Trains.{AllBlocked, AllChosen, Coded}
 use Rattle.fewest.proofs.Numbers.{codesOf, best-fewest}
 use Rattle.fewest.proofs.Steps.{sorted-exactly}
 use Rattle.fewest.proofs.Nights.{breaksBy, all-blocked, night-best}
@@ -43,7 +44,7 @@ module _ (n : Night) (h : ℕ) (f : Listed (n .lengths) (n .inbound)) (pos : 0 <
     numbers-are : take (length (n .inbound) - 0) list ≡ breaksBy n f
     numbers-are = ap (λ (i : ℕ). take i list) (sub-zero (length (n .inbound))) ∙ k .listed
 
-    pub numbers-blocked : stepsNeeded n ≤ h → length (n .inbound) ≤ limits .cars
+    pub numbers-blocked : stepsNeeded n ≤ h → length (n .inbound) ≤ firstLimits .cars
         → AllBlocked (n .lengths) (length (allowedCodes (n .closed) (n .tracks) h)) (take (length (n .inbound) - 0) list)
     numbers-blocked l few =
         subst (AllBlocked (n .lengths) (length (allowedCodes (n .closed) (n .tracks) h))) (sym numbers-are)

@@ -8,7 +8,7 @@ use native.Mathlib.Omega.{arith}
 use lib.ListN.{length, getD, take, drop, length-drop, length-map}
 use lib.Seq.{length-take-le, take-length, ext-getD}
 use borrow.Author.Tests.{eq-eqb, ne-eqb}
-use Rattle.yard.specs.Limits.{limits}
+use Rattle.yard.specs.Limits.{firstLimits}
 use Rattle.yard.specs.Words.{tally, count, upFrom}
 use Rattle.yard.specs.Night.{Night, cars, sum, itemOf, trainOf, pair, broken, breaks, breaksBefore, mostBreaks}
 use Rattle.yard.specs.Demands.{Listed}
@@ -16,10 +16,10 @@ use Rattle.yard.proofs.general.Lists.{length-upFrom, part-item}
 use Rattle.yard.proofs.yards.Trains.{itemOf-suc, train-of, train-end, breaksBefore-train}
 use Rattle.yard.proofs.yards.DerivedPlan.{map-item, length-by-car, breaks-mono, before-most, before-pair}
 use Rattle.scan.proofs.Running.{sum-next}
-use Rattle.fewest.specs.Trains.{lastOf, weightsOf, Blocked, Chosen, partOf, AllBlocked, AllChosen}
-use Rattle.fewest.proofs.Best.{Best, askedBy, best-none, best-same, best-join}
-use Rattle.fewest.proofs.Blocks.{blocks-best}
-use Rattle.fewest.proofs.Weights.{weights-length, weights-item}
+use Rattle.blocks.specs.Trains.{lastOf, weightsOf, Blocked, Chosen, partOf, AllBlocked, AllChosen}
+use Rattle.blocks.proofs.Best.{Best, askedBy, best-none, best-same, best-join}
+use Rattle.blocks.proofs.Blocks.{blocks-best}
+use Rattle.blocks.proofs.Weights.{weights-length, weights-item}
 
 module _ (n : Night) (f : Listed (n .lengths) (n .inbound)) where
   abbrev N : ℕ
@@ -106,7 +106,7 @@ module _ (n : Night) (f : Listed (n .lengths) (n .inbound)) where
           breaks-mono (n .inbound) (suc s) (len - 1 - i) i,
         )
 
-    blocked : (K : ℕ) → mostBreaks (n .lengths) (n .inbound) < K → N ≤ limits .cars → Blocked K (partOf (n .lengths) breaksBy t)
+    blocked : (K : ℕ) → mostBreaks (n .lengths) (n .inbound) < K → N ≤ firstLimits .cars → Blocked K (partOf (n .lengths) breaksBy t)
     blocked K fewer few =
         let long = part-long breaksBy (length-by-car block N) in
         record {
@@ -143,7 +143,7 @@ module _ (n : Night) (f : Listed (n .lengths) (n .inbound)) where
 
   -- ---- all trains
 
-  pub all-blocked : (K : ℕ) → mostBreaks (n .lengths) (n .inbound) < K → N ≤ limits .cars → AllBlocked (n .lengths) K breaksBy
+  pub all-blocked : (K : ℕ) → mostBreaks (n .lengths) (n .inbound) < K → N ≤ firstLimits .cars → AllBlocked (n .lengths) K breaksBy
   all-blocked K fewer few =
       let long = length-by-car block N in
       record { all = f .adds ∙ sym long; few = omega (arith, long); train = λ t m. blocked t m K fewer few }

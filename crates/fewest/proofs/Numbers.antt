@@ -26,7 +26,7 @@ use Rattle.yard.proofs.yards.Least.{car-allowed}
 use Rattle.yard.proofs.yards.PlanYard.{passes-whole, total-codes}
 use Rattle.yard.proofs.yards.DerivedPlan.{by-car, length-by-car, codeNumber-rising, codeNumber-mono, numbered-sorts}
 use Rattle.fewest.specs.Fewest.{planIn, Before, FewestPasses}
-use Rattle.fewest.proofs.Best.{Asked, askedBy, Fits, spent, Best}
+use Rattle.blocks.proofs.Best.{Asked, askedBy, Fits, spent, Best}
 
 ones-zero : ones 0 ≡ 0
 unfolding ones

@@ -5,7 +5,8 @@ use mathlib.Core.List.{List, [], _∷_}
 use lib.Dec.{leb}
 use lib.ListN.{length}
 use Rattle.yard.specs.declared.Answer.{Answer}
-use Rattle.yard.specs.Limits.{Limits, limits}
+use Rattle.yard.specs.declared.Limits.{Limits}
+use Rattle.yard.specs.Limits.{firstLimits}
 use Rattle.yard.specs.Night.{Night, Plan, itemOf}
 use Rattle.yard.specs.Replay.{passes}
 use Rattle.yard.specs.Derived.{stepsNeeded}
@@ -58,6 +59,6 @@ fewestAnswer L n h codes size = verdict (answers (fewestAsks L n h codes size)) 
 -- with the fewest passes wherever its tests 1 to 4 are passed and any codes of h steps sort; else it refuses before it looks at them.
 pub record FindsFewest (n : Night) (h : ℕ) (before : List ℕ) (r : Answer) (after : List ℕ) : Type 0 where
   pub found : List ℕ
-  pub fewest : DeriveGiven limits n h (length before) → SortedIn n h → FewestPasses n h found
-  pub answer : r ≡ fewestAnswer limits n h found (length before)
+  pub fewest : DeriveGiven firstLimits n h (length before) → SortedIn n h → FewestPasses n h found
+  pub answer : r ≡ fewestAnswer firstLimits n h found (length before)
   pub codes : after ≡ written r found before

@@ -1,3 +1,3 @@
 -- What the call promises, and what the contracts of this crate cite besides.
 pub mod Fewest
-pub mod Trains
+pub mod Found

@@ -21,9 +21,10 @@ use Rattle.sorting.specs.Sums.{setBelow}
 use Rattle.order.specs.Order.{sortedTo}
 use Rattle.order.proofs.Keys.{sortedTo-is}
 use Rattle.stage.specs.Stages.{trackBy, placeBy}
+use Rattle.sound.proofs.Replayed.{sound-is}
 use Rattle.plans.specs.Worked.{placedTests, Placeable, Placed}
 use Rattle.plans.proofs.Stages.{by-car-same}
-use Rattle.plans.proofs.Replayed.{sound-is, passes-is}
+use Rattle.plans.proofs.Replayed.{passes-is}
 use Rattle.plans.proofs.Chain.{Tested, same-number, given, sound, Counts, counts-passed, given-passed, counted}
 
 module _ (p : Plan) (f : Listed (p .night .lengths) (p .night .inbound)) (pos : 0 < p .night .tracks) (never : NeverEarly p) (s : ℕ) (upto : s ≤ p .steps) where

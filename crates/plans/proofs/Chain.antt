@@ -17,8 +17,10 @@ use Rattle.yard.proofs.calls.Tests.{list-passed}
 use Rattle.yard.proofs.yards.Formed.{lists-passed}
 use Rattle.intake.proofs.Passed.{counts-within}
 use Rattle.sorting.specs.Sums.{setBelow, fullestOf}
-use Rattle.plans.specs.Worked.{givenTests, soundTests, pairTest, Counted}
-use Rattle.plans.proofs.Replayed.{sound-is, order-is}
+use Rattle.sound.specs.Worked.{soundTests}
+use Rattle.sound.proofs.Replayed.{sound-is}
+use Rattle.plans.specs.Worked.{givenTests, pairTest, Counted}
+use Rattle.plans.proofs.Replayed.{order-is}
 
 -- an answer of tests alone, and what is known of it
 abbrev pub Tested : List Answer → Answer → Type 0

@@ -1,6 +1,5 @@
 -- Laws that the proofs of this crate cite, and in `Demand` what a caller of `check` or `replay` may rely on.
 pub mod Worked
-pub mod Usable
 pub mod Replayed
 pub mod Stages
 pub mod Chain

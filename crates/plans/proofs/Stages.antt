@@ -19,7 +19,7 @@ use Rattle.yard.proofs.yards.DerivedPlan.{by-car}
 use Rattle.scan.specs.Front.{Front}
 use Rattle.scan.proofs.Front.{front-item, front-fits}
 use Rattle.order.specs.Order.{CarsOf, sortedTo, Keyed}
-use Rattle.stage.specs.Stages.{trackBy, placeBy, allTracks, Standable}
+use Rattle.stage.specs.Stages.{trackBy, placeBy, Standable}
 use Rattle.trains.proofs.Filling.{item-within}
 use Rattle.order.proofs.Keys.{sortedTo-is, sortedTo-length}
 use Rattle.plans.specs.Worked.{Placeable, Placed}
@@ -57,17 +57,17 @@ module _ (lengths inbound codes : List ℕ) (W h stage : ℕ) (on at : List ℕ)
     order-part = take-at sorted rest (length inbound - 0) (omega (arith, long)) ∙ is
 
   -- a car's track is a sorting track or a destination
-  track-below : (car : ℕ) → Within 1 (length inbound) car → trackBy lengths codes W h stage car < allTracks
+  track-below : (car : ℕ) → Within 1 (length inbound) car → trackBy lengths codes W h stage car < W + length lengths
   track-below car w = go (ltb next h)
     where
       next : ℕ
       next = nextStep h (itemOf codes car) stage
 
-      go : (b : Bool) → cond b (next % W) (W + trainOf lengths car - 1) < allTracks
-      go true = omega (arith, mod-lt next (p .tracks .0), p .tracks .1)
+      go : (b : Bool) → cond b (next % W) (W + trainOf lengths car - 1) < W + length lengths
+      go true = omega (arith, mod-lt next (p .tracks .0))
       go false =
           let r = train-cars lengths inbound (p .lists) car w in
-          omega (arith, r .1, r .2, p .counted .trains .1, p .tracks .0, p .tracks .1)
+          omega (arith, r .1, r .2, p .tracks .0)
 
   module _ (order on₁ : List ℕ) (sorts : order ≡ sortedTo codes inbound stage)
       (fills : Front (map (trackBy lengths codes W h stage) (cars (length codes))) on (length codes) on₁) where
@@ -83,12 +83,13 @@ module _ (lengths inbound codes : List ℕ) (W h stage : ℕ) (on at : List ℕ)
         let v : Within 1 (length codes) car = (w .0, omega (arith, w .1, p .counted .each)) in
         front-item fills (car - 1) (omega (arith, v .0, v .1)) ∙ by-car (trackBy lengths codes W h stage) (length codes) car v
 
-    pub standable : Standable order on₁ at
+    pub standable : Standable order on₁ (W + length lengths) at
     standable =
         record {
           once = order-once;
           few = omega (arith, same, p .counted .cars .1);
           given = omega (arith, same, p .counted .each, front-fits fills);
+          tracks = omega (arith, p .counted .trains .1, p .tracks .1);
           track = λ car w. let v : Within 1 (length inbound) car = (w .0, omega (arith, w .1, same)) in omega (arith, item-track car v, track-below car v);
           room = omega (arith, same, p .roomAt);
         }

@@ -1,7 +1,6 @@
 -- The tests of a plan's replay as the laws let them be worked out, from the lists alone.
 use Prim.Native.Nat.{ℕ, suc, _-_, _≤_}
 use mathlib.Core.Path.{_≡_}
-use mathlib.Core.Bool.{Bool}
 use mathlib.Core.List.{List, [], _∷_, _++_, map}
 use lib.Dec.{leb, eqb}
 use lib.ListN.{length}
@@ -9,11 +8,10 @@ use Rattle.yard.specs.declared.Answer.{Answer}
 use Rattle.yard.specs.Limits.{limits}
 use Rattle.yard.specs.Words.{place, first}
 use Rattle.yard.specs.Night.{cars}
-use Rattle.yard.specs.Answers.{says, test, listTest, codeTest, zeroTest}
+use Rattle.yard.specs.Answers.{says, test, listTest}
 use Rattle.yard.specs.Demands.{Within, Listed}
-use Rattle.intake.specs.Tests.{listTests}
+use Rattle.lists.specs.Tests.{listTests}
 use Rattle.scan.specs.Front.{Front}
-use Rattle.sorting.specs.Worked.{waitTest, fullTest}
 use Rattle.pairs.specs.Pairs.{unruledAt}
 use Rattle.order.specs.Order.{sortedTo}
 use Rattle.stage.specs.Stages.{trackBy, placeBy}
@@ -21,10 +19,6 @@ use Rattle.stage.specs.Stages.{trackBy, placeBy}
 -- 2, 3 and 4: the lists of a plan
 abbrev pub givenTests : List ℕ → List ℕ → List ℕ → List Answer
 givenTests lengths inbound codes = listTests lengths inbound ++ (listTest 3 (eqb (length codes) (length inbound)) ∷ [])
-
--- 7, 14, 8 and 6
-abbrev pub soundTests : Bool → ℕ → ℕ → ℕ → List ℕ → List Answer
-soundTests closed W C h codes = codeTest h codes ∷ zeroTest closed codes ∷ waitTest W h codes ∷ fullTest C h codes ∷ []
 
 -- 9: the lowest car that breaks the rule with the next
 abbrev pub firstPair : List ℕ → List ℕ → List ℕ → ℕ

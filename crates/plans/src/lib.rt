@@ -1,21 +1,31 @@
 // Check: a plan offered by anyone is accepted exactly if its replay is good, its lists and codes being well formed.
-use sorting::early::Early;
 use yard::Answer;
 use yard::Counts;
 ghost use mathlib.Core.Path.{_≡_};
 ghost use mathlib.Core.List.{_∷_, []};
-ghost use Prim.Native.Nat.{_+_, _≤_, _<_};
+ghost use Prim.Native.Nat.{_+_, _≤_};
 ghost use lib.ListN.{length};
 ghost use Rattle.yard.specs.Limits.{limits};
 ghost use Rattle.yard.specs.Night.{planGiven};
 ghost use Rattle.yard.specs.Answers.{says, verdict};
-ghost use Rattle.yard.specs.Calls.{Checks, Replays};
-ghost use Rattle.yard.specs.Demands.{Listed, CodesBelow};
-ghost use Rattle.sorting.specs.Early.{earlyFound};
+ghost use Rattle.yard.specs.Calls.{countTests, Checks, Replays};
+ghost use Rattle.yard.specs.Demands.{Listed};
 ghost use Rattle.sorting.specs.Sums.{setBelow, fullestOf};
-ghost use Rattle.sorting.specs.Worked.{earlyAnswer, waitTest, fullTest};
-ghost use Rattle.plans.specs.Worked.{givenTests, soundTests};
-ghost use Rattle.plans.specs.Worked.{firstPair, pairTest, Counted, placedTests, Placeable, Placed};
+ghost use Rattle.plans.specs.Worked.{givenTests, firstPair, pairTest, Counted, placedTests, Placeable, Placed};
+
+// 1: the counts of a plan.
+fn counted(cars: usize, trains: usize, counts: Counts) -> Answer
+    ensures { λ r. ⌜ r ≡ verdict (countTests limits cars trains (counts .tracks) (counts .room) (counts .steps)) (says 0 0 0) ⌝ }
+{
+    intake::counts(
+        intake::limits(),
+        cars,
+        trains,
+        counts.tracks,
+        counts.room,
+        counts.steps,
+    )
+}
 
 // 2, 3 and 4: the lists of a plan.
 fn given(lengths: &[u16], inbound: &[u16], codes: &[u16]) -> Answer
@@ -23,75 +33,30 @@ fn given(lengths: &[u16], inbound: &[u16], codes: &[u16]) -> Answer
     ensures { λ r. ⌜ r ≡ verdict (givenTests (now (lengths .entry)) (now (inbound .entry)) (now (codes .entry))) (says 0 0 0) ⌝ }
 {
     let each = intake::list(3, codes.len() == inbound.len());
-    intake::unless(intake::lists(lengths, inbound), each)
+    intake::unless(lists::lists(lengths, inbound), each)
 }
 
-// 8: no car pulled early, or else the lowest car of the first such step.
-fn early(codes: &[u16], tracks: usize, steps: usize) -> Answer
-    requires { ⌜ (0 < tracks) × (steps ≤ limits .steps) ⌝ }
-    ensures { λ r. ⌜ r ≡ earlyAnswer (earlyFound tracks steps (now (codes .entry))) ⌝ }
+// The lowest car that breaks the rule with the next, or the last car where there is none. The places of the cars go to a lent list.
+fn first_pair_with(lengths: &[u16], inbound: &[u16], codes: &[u16], places: &mut [u16]) -> usize
+    requires { ⌜ Counted (now lengths) (now inbound) (now codes) × Listed (now lengths) (now inbound) × (length (now inbound) ≤ length (now places)) ⌝ }
+    ensures { λ r. ⌜ r ≡ firstPair (now (lengths .entry)) (now (inbound .entry)) (now (codes .entry)) ⌝ }
 {
-    let found = sorting::early::first_early(codes, tracks, steps);
-    match found {
-        Early::At(step, car) => intake::answer(8, car, step),
-        Early::Never => intake::answer(0, 0, 0),
-    }
+    let n = codes.len();
+    trains::places(inbound, places);
+    pairs::first_unruled(lengths, &places[0..n], codes)
 }
 
-// 8 for codes below 2 to the steps: the table's word for each code comes first, and the search only where it does not do.
-fn kept(codes: &[u16], tracks: usize, steps: usize) -> Answer
-    requires { ⌜ (0 < tracks) × (steps ≤ limits .steps) × CodesBelow steps (now codes) ⌝ }
-    ensures { λ r. ⌜ r ≡ waitTest tracks steps (now (codes .entry)) ⌝ }
-{
-    if codes::first_wider(codes, tracks) < codes.len() {
-        return early(codes, tracks, steps);
-    }
-    intake::answer(0, 0, 0)
-}
-
-// 6: no track overfilled, or else the first such step and its cars.
-fn full(codes: &[u16], fullest: usize, room: usize, steps: usize) -> Answer
-    requires { ⌜ (steps ≤ limits .steps) × (length (now codes) ≤ limits .cars) × (fullest ≡ fullestOf (now codes) steps) ⌝ }
-    ensures { λ r. ⌜ r ≡ fullTest room steps (now (codes .entry)) ⌝ }
-{
-    let step = sorting::first_above(codes, steps, room, fullest);
-    if step < steps {
-        intake::answer(6, step, sorting::pull(codes, step))
-    } else {
-        intake::answer(0, 0, 0)
-    }
-}
-
-// 7, 14, 8 and 6: what the codes alone can break, with their fullest pull.
-fn sound(codes: &[u16], fullest: usize, closed: bool, counts: Counts) -> Answer
-    requires { ⌜ (0 < counts .tracks) × (counts .steps ≤ limits .steps) × (length (now codes) ≤ limits .cars) × (fullest ≡ fullestOf (now codes)
-        (counts .steps)) ⌝ }
-    ensures { λ r. ⌜ r ≡ verdict (soundTests closed (counts .tracks) (counts .room) (counts .steps) (now (codes .entry))) (says 0 0 0) ⌝ }
-{
-    let below = intake::codes(codes, counts.steps);
-    if below.number != 0 {
-        return below;
-    }
-    let barred = intake::zeros(codes, closed);
-    if barred.number != 0 {
-        return barred;
-    }
-    let pulled = kept(codes, counts.tracks, counts.steps);
-    if pulled.number != 0 {
-        return pulled;
-    }
-    full(codes, fullest, counts.room, counts.steps)
-}
-
-// The lowest car that breaks the rule with the next, or the last car where there is none.
+// The same with a list of its own, a short one where it does: to clear a long one would cost a short night more than the rest.
 fn first_pair(lengths: &[u16], inbound: &[u16], codes: &[u16]) -> usize
     requires { ⌜ Counted (now lengths) (now inbound) (now codes) × Listed (now lengths) (now inbound) ⌝ }
     ensures { λ r. ⌜ r ≡ firstPair (now (lengths .entry)) (now (inbound .entry)) (now (codes .entry)) ⌝ }
 {
-    let n = codes.len();
-    let mut places = [0u16; yard::CARS];
-    trains::places(inbound, &mut places);
-    pairs::first_unruled(lengths, &places[0..n], codes)
+    if codes.len() <= yard::FIRST_CARS {
+        let mut few = [0u16; yard::FIRST_CARS];
+        return first_pair_with(lengths, inbound, codes, &mut few);
+    }
+    let mut many = [0u16; yard::CARS];
+    first_pair_with(lengths, inbound, codes, &mut many)
 }
 
 // 9: the trains in order, or else the lowest second car of a pair that breaks the rule; then the passes and the fullest pull.
@@ -119,13 +84,7 @@ pub fn check(
 ) -> Answer
     ensures { λ r. ⌜ Checks (planGiven (now (lengths .entry)) (now (inbound .entry)) (now (codes .entry)) closed counts) r ⌝ }
 {
-    let counted = intake::counts(
-        inbound.len(),
-        lengths.len(),
-        counts.tracks,
-        counts.room,
-        counts.steps,
-    );
+    let counted = counted(inbound.len(), lengths.len(), counts);
     if counted.number != 0 {
         return counted;
     }
@@ -134,7 +93,7 @@ pub fn check(
         return listed;
     }
     let fullest = sorting::fullest(codes, counts.steps);
-    let replayed = sound(codes, fullest, closed, counts);
+    let replayed = sound::sound(codes, fullest, closed, counts);
     if replayed.number != 0 {
         return replayed;
     }
@@ -157,7 +116,29 @@ fn placed(lengths: &[u16], inbound: &[u16], codes: &[u16], on: usize, at: usize)
     intake::list(5, inbound.len() <= at)
 }
 
-// Each car's track and place at a stage, written into the two buffers.
+// Each car's track and place at a stage, written into the two buffers. The cars are ordered in a lent list.
+fn stand_with(
+    lengths: &[u16],
+    inbound: &[u16],
+    codes: &[u16],
+    tracks: usize,
+    steps: usize,
+    stage: usize,
+    order: &mut [u16],
+    on: &mut [u16],
+    at: &mut [u16],
+)
+    requires { ⌜ Placeable (now lengths) (now inbound) (now codes) tracks steps stage (now on) (now at) × (length (now inbound) ≤ length (now order)) ⌝ }
+    ensures { λ _. ⌜ Placed (now (lengths .entry)) (now (inbound .entry)) (now (codes .entry)) tracks steps stage
+        (now (on .entry)) (now (at .entry)) (now (on .exit)) (now (at .exit)) ⌝ }
+{
+    let n = inbound.len();
+    order::sort(inbound, codes, stage, &mut order[0..n]);
+    stage::tracks(lengths, codes, tracks, steps, stage, on);
+    stage::places(&order[0..n], on, tracks + lengths.len(), at);
+}
+
+// The same with a list of its own, a short one where it does.
 fn stand(
     lengths: &[u16],
     inbound: &[u16],
@@ -172,11 +153,33 @@ fn stand(
     ensures { λ _. ⌜ Placed (now (lengths .entry)) (now (inbound .entry)) (now (codes .entry)) tracks steps stage
         (now (on .entry)) (now (at .entry)) (now (on .exit)) (now (at .exit)) ⌝ }
 {
-    let n = inbound.len();
-    let mut order = [0u16; yard::CARS];
-    order::sort(inbound, codes, stage, &mut order[0..n]);
-    stage::tracks(lengths, codes, tracks, steps, stage, on);
-    stage::places(&order[0..n], on, at);
+    if inbound.len() <= yard::FIRST_CARS {
+        let mut few = [0u16; yard::FIRST_CARS];
+        stand_with(
+            lengths,
+            inbound,
+            codes,
+            tracks,
+            steps,
+            stage,
+            &mut few,
+            on,
+            at,
+        );
+        return;
+    }
+    let mut many = [0u16; yard::CARS];
+    stand_with(
+        lengths,
+        inbound,
+        codes,
+        tracks,
+        steps,
+        stage,
+        &mut many,
+        on,
+        at,
+    );
 }
 
 // Where each car of a plan stands at a stage, and the passes up to there; the buffers are written only where the replay is good.
@@ -193,13 +196,7 @@ pub fn replay(
     ensures { λ r. ⌜ Replays (planGiven (now (lengths .entry)) (now (inbound .entry)) (now (codes .entry)) closed counts) stage (now (on .entry))
         (now (at .entry)) r (now (on .exit)) (now (at .exit)) ⌝ }
 {
-    let counted = intake::counts(
-        inbound.len(),
-        lengths.len(),
-        counts.tracks,
-        counts.room,
-        counts.steps,
-    );
+    let counted = counted(inbound.len(), lengths.len(), counts);
     if counted.number != 0 {
         return counted;
     }
@@ -212,7 +209,7 @@ pub fn replay(
         return listed;
     }
     let fullest = sorting::fullest(codes, counts.steps);
-    let checked = sound(codes, fullest, closed, counts);
+    let checked = sound::sound(codes, fullest, closed, counts);
     if checked.number != 0 {
         return checked;
     }

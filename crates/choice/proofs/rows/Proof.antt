@@ -4,14 +4,14 @@ use Prim.Native.Nat.{ℕ, suc, _-_, _*_, _^_, _≤_}
 use native.Mathlib.Omega.{arith}
 use lib.ListN.{length, getD-replicate}
 use denote.Ref.{now}
-use Rattle.yard.specs.Limits.{limits}
+use Rattle.yard.specs.Limits.{firstLimits}
 use Rattle.choice.proofs.Table.{Filled, filled-none, filled-next, together-small, table-room}
 use Rattle.choice.proofs.rows.Statement.{statement}
 use Rattle.choice.proofs.rows.Tie as tie
 
 abbrev Inv-loop : tie.InvT-loop
 Inv-loop weights costs width picks₀ behind₀ b₀ picks behind b =
-    (length picks ≡ length picks₀) × (length behind ≡ 2 ^ limits .steps) × Filled weights costs b behind picks
+    (length picks ≡ length picks₀) × (length behind ≡ 2 ^ firstLimits .steps) × Filled weights costs b behind picks
 
 abbrev μ-loop : tie.MeasureT-loop
 μ-loop weights costs width picks₀ behind₀ b₀ picks behind b = b
@@ -20,7 +20,7 @@ loop-holds : tie.Need-loop-holds Inv-loop μ-loop
 loop-holds c =
     let s = c .before .before .before in
     let ch = s .pre .0 in
-    (refl, refl, filled-none ch (λ d l. getD-replicate (2 ^ limits .steps) d 0 0 (omega (arith, ch .numbers, ch .some, ch .enough))))
+    (refl, refl, filled-none ch (λ d l. getD-replicate (2 ^ firstLimits .steps) d 0 0 (omega (arith, ch .numbers, ch .some, ch .enough))))
 
 -- the table is filled behind the block at hand
 filled : (c : tie.In-loop Inv-loop μ-loop) →
@@ -39,7 +39,7 @@ row-requires c κs =
     let b = at .loop .b - 1 in
     let near = here .upto in
     let wide = s .pre .1 in
-    let few : s .args .width ≤ 2 ^ limits .steps = omega (arith, ch .some, ch .enough, ch .numbers) in (
+    let few : s .args .width ≤ 2 ^ firstLimits .steps = omega (arith, ch .some, ch .enough, ch .numbers) in (
       near,
       omega (arith, ch .enough),
       few,

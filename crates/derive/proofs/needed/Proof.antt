@@ -34,7 +34,7 @@ returns : tie.Need-returns
 returns c =
     let args = start (c .before) .args in
     needs-all (now (args .lengths)) (now (args .inbound)) (args .closed) (args .tracks) (c .before .before .before .before .numbers .ensures)
-    (c .before .tally .ensures) (c .fewest-steps .ensures)
+    (c .before .tally .ensures) (within (c .before)) (c .fewest-steps .ensures)
 
 pub needed-spec : {M : Type 1} → statement M
 needed-spec =

@@ -5,6 +5,7 @@ use denote.Ref.{now}
 use borrow.Author.Needs.{needs}
 use Rattle.yard.specs.Derived.{stepsNeeded}
 use Rattle.yard.specs.Night.{Night, nightOf}
+use Rattle.yard.proofs.calls.Larger.{first-at-most, larger-derive}
 use Rattle.derive.proofs.Coded.{given-needy}
 use Rattle.fewest.proofs.Finding.{numbers-blocked, found-within, found-part, found-settled, found-refused}
 use Rattle.fewest.proofs.plan.Statement.{statement}
@@ -16,6 +17,12 @@ night s = nightOf (now (s .args .lengths)) (now (s .args .inbound)) (s .args .cl
 -- the place from which a place comes
 abbrev start : tie.After-needed → tie.Start
 start c = c .before .before .before .before .before
+
+-- what the first limits allow the larger ones of derive allow, too
+needed-requires : tie.Need-needed-requires
+needed-requires c κs =
+    let entry = c .before .before .before .before in
+    given-needy (night entry) (larger-derive first-at-most (entry .pre)) (entry .pre .given .counts .cars .1)
 
 returns : tie.Need-returns
 returns c =
@@ -65,6 +72,6 @@ pub plan-spec : {M : Type 1} → statement M
 plan-spec =
     tie.close
     (tie.spec
-    (λ c. search needs) (λ c κs. given-needy (night (c .before .before .before .before)) (c .before .before .before .before .pre)) (λ c κs. search needs)
+    (λ c. search needs) needed-requires (λ c κs. search needs)
     returns (λ c. search needs) (λ c. search needs) (λ c. search needs) find-requires (λ c. search needs) (λ c. search needs) part-settle-end
     (λ c κs. search needs) (λ c. search needs) returns-2)

@@ -11,7 +11,7 @@ use Rattle.plans.proofs.check.Statement.{statement}
 use Rattle.plans.proofs.check.Tie as tie
 
 -- the plan that is checked
-abbrev plan : tie.After-counts → Plan
+abbrev plan : tie.After-counted → Plan
 plan c =
     let a = c .before .before .before .before .args in
     planOf (now (a .lengths)) (now (a .inbound)) (a .closed) (a .counts .tracks) (a .counts .room) (a .counts .steps) (now (a .codes))
@@ -21,7 +21,7 @@ abbrev counted-at : tie.Else2 → tie.Else1
 counted-at c = c .before .before .before
 
 within : (c : tie.Else1) → Counts (plan (c .before .before))
-within c = counts-passed (plan (c .before .before)) (c .before .before .counts .ensures) (c .if1 .left)
+within c = counts-passed (plan (c .before .before)) (c .before .before .counted .ensures) (c .if1 .left)
 
 listed : (c : tie.Else2) →
     let p = plan (counted-at c .before .before) in
@@ -29,7 +29,7 @@ listed : (c : tie.Else2) →
 listed c = given-passed (plan (counted-at c .before .before)) (c .before .before .given .ensures) (c .if2 .left)
 
 returns : tie.Need-returns
-returns c = check-counts (plan (c .before .before)) (c .before .before .counts .ensures) (c .if1 .taken)
+returns c = check-counts (plan (c .before .before)) (c .before .before .counted .ensures) (c .if1 .taken)
 
 given-requires : tie.Need-given-requires
 given-requires c κs = (within c .trains .1, within c .cars .1)
@@ -37,7 +37,7 @@ given-requires c κs = (within c .trains .1, within c .cars .1)
 returns-2 : tie.Need-returns-2
 returns-2 c =
     let passed = c .before .before .before in
-    check-given (plan (passed .before .before)) (passed .before .before .counts .ensures) (passed .if1 .left) (c .before .before .given .ensures)
+    check-given (plan (passed .before .before)) (passed .before .before .counted .ensures) (passed .if1 .left) (c .before .before .given .ensures)
     (c .if2 .taken)
 
 fullest-requires : tie.Need-fullest-requires
@@ -52,7 +52,7 @@ returns-3 : tie.Need-returns-3
 returns-3 c =
     let passed = c .before .before .before .before in
     let counts = counted-at passed in
-    check-sound (plan (counts .before .before)) (counts .before .before .counts .ensures) (counts .if1 .left) (passed .before .before .given .ensures)
+    check-sound (plan (counts .before .before)) (counts .before .before .counted .ensures) (counts .if1 .left) (passed .before .before .given .ensures)
     (passed .if2 .left) (c .before .before .sound .ensures) (c .if3 .taken)
 
 ordered-requires : tie.Need-ordered-requires
@@ -67,7 +67,7 @@ returns-4 c =
     let sound = c .before in
     let passed = sound .before .before .before .before in
     let counts = counted-at passed in
-    check-ordered (plan (counts .before .before)) (counts .before .before .counts .ensures) (counts .if1 .left) (passed .before .before .given .ensures)
+    check-ordered (plan (counts .before .before)) (counts .before .before .counted .ensures) (counts .if1 .left) (passed .before .before .given .ensures)
     (passed .if2 .left) (sound .before .before .sound .ensures) (sound .if3 .left) (c .ordered .ensures)
 
 pub check-spec : {M : Type 1} → statement M

@@ -8,7 +8,7 @@ use lib.ListN.{length}
 use Rattle.yard.specs.Answers.{says, listTest, verdict}
 use Rattle.yard.proofs.calls.Verdict.{last-is, verdict-append, verdict-nested}
 use Rattle.yard.specs.declared.Answer.{Answer}
-use Rattle.intake.specs.Tests.{listTests}
+use Rattle.lists.specs.Tests.{listTests}
 use borrow.Author.Needs.{needs}
 use Rattle.plans.proofs.given.Statement.{statement}
 use Rattle.plans.proofs.given.Tie as tie

@@ -11,17 +11,17 @@ use borrow.Author.Needs.{needs}
 use Rattle.plans.proofs.replay.Statement.{statement}
 use Rattle.plans.proofs.replay.Tie as tie
 
-abbrev start : tie.After-counts → tie.Start
+abbrev start : tie.After-counted → tie.Start
 start c = c .before .before .before .before .before .before
 
 -- the plan that is replayed
-abbrev plan : tie.After-counts → Plan
+abbrev plan : tie.After-counted → Plan
 plan c =
     let a = start c .args in
     planOf (now (a .lengths)) (now (a .inbound)) (a .closed) (a .counts .tracks) (a .counts .room) (a .counts .steps) (now (a .codes))
 
 -- the places from which a place comes
-abbrev counts-at : tie.Else1 → tie.After-counts
+abbrev counts-at : tie.Else1 → tie.After-counted
 counts-at c = c .before .before
 
 abbrev staged-at : tie.Else2 → tie.Else1
@@ -37,7 +37,7 @@ abbrev stood-at : tie.After-slice-known4 → tie.After-stand
 stood-at c = c .before .before .before .before
 
 within : (c : tie.Else1) → Counts (plan (counts-at c))
-within c = counts-passed (plan (counts-at c)) (counts-at c .counts .ensures) (c .if1 .left)
+within c = counts-passed (plan (counts-at c)) (counts-at c .counted .ensures) (c .if1 .left)
 
 ready : (c : tie.Else3) →
     let counts = counts-at (staged-at (placed-at c)) in
@@ -47,21 +47,21 @@ ready c =
     let counted = staged-at staged in
     let counts = counts-at counted in
     let a = start counts .args in
-    replay-ready (plan counts) (a .stage) (now (a .on)) (now (a .at)) (counts .counts .ensures) (counted .if1 .left)
+    replay-ready (plan counts) (a .stage) (now (a .on)) (now (a .at)) (counts .counted .ensures) (counted .if1 .left)
     (staged .before .before .in-range .ensures) (staged .if2 .left) (c .before .before .placed .ensures) (c .if3 .left)
 
 returns : tie.Need-returns
 returns c =
     let counts = c .before .before in
     let a = start counts .args in
-    replay-counts (plan counts) (a .stage) (now (a .on)) (now (a .at)) (counts .counts .ensures) (c .if1 .taken)
+    replay-counts (plan counts) (a .stage) (now (a .on)) (now (a .at)) (counts .counted .ensures) (c .if1 .taken)
 
 returns-2 : tie.Need-returns-2
 returns-2 c =
     let counted = c .before .before .before in
     let counts = counts-at counted in
     let a = start counts .args in
-    replay-stage (plan counts) (a .stage) (now (a .on)) (now (a .at)) (counts .counts .ensures) (counted .if1 .left)
+    replay-stage (plan counts) (a .stage) (now (a .on)) (now (a .at)) (counts .counted .ensures) (counted .if1 .left)
     (c .before .before .in-range .ensures) (c .if2 .taken)
 
 placed-requires : tie.Need-placed-requires
@@ -75,7 +75,7 @@ returns-3 c =
     let counted = staged-at staged in
     let counts = counts-at counted in
     let a = start counts .args in
-    replay-given (plan counts) (a .stage) (now (a .on)) (now (a .at)) (counts .counts .ensures) (counted .if1 .left)
+    replay-given (plan counts) (a .stage) (now (a .on)) (now (a .at)) (counts .counted .ensures) (counted .if1 .left)
     (staged .before .before .in-range .ensures) (staged .if2 .left) (c .before .before .placed .ensures) (c .if3 .taken)
 
 fullest-requires : tie.Need-fullest-requires
@@ -95,7 +95,7 @@ returns-4 c =
     let counted = staged-at staged in
     let counts = counts-at counted in
     let a = start counts .args in
-    replay-sound (plan counts) (a .stage) (now (a .on)) (now (a .at)) (counts .counts .ensures) (counted .if1 .left)
+    replay-sound (plan counts) (a .stage) (now (a .on)) (now (a .at)) (counts .counted .ensures) (counted .if1 .left)
     (staged .before .before .in-range .ensures) (staged .if2 .left) (placed .before .before .placed .ensures) (placed .if3 .left)
     (c .before .before .sound .ensures) (c .if4 .taken)
 
@@ -116,7 +116,7 @@ returns-5 c =
     let counted = staged-at staged in
     let counts = counts-at counted in
     let a = start counts .args in
-    replay-stood (plan counts) (a .stage) (now (a .on)) (now (a .at)) (counts .counts .ensures) (counted .if1 .left)
+    replay-stood (plan counts) (a .stage) (now (a .on)) (now (a .at)) (counts .counted .ensures) (counted .if1 .left)
     (staged .before .before .in-range .ensures) (staged .if2 .left) (placed .before .before .placed .ensures) (placed .if3 .left)
     (sound .before .before .sound .ensures) (sound .if4 .left) (c .answer .ensures ∙ ap (λ (n : ℕ). says 0 n 0) (c .before .passes .ensures))
     (stood .stand .ensures)
