@@ -7,8 +7,8 @@ use yard::Counts;
 use yard::PriceAnswer;
 use yard::Timings;
 ghost use mathlib.Core.Path.{_≡_};
-ghost use mathlib.Core.Bool.{false};
 ghost use Rattle.yard.specs.Night.{planGiven, nightGiven, closedBy};
+ghost use Rattle.yard.specs.Limits.{limits};
 ghost use Rattle.yard.specs.Codes.{fewestTracks};
 ghost use Rattle.yard.specs.Calls.{Derives, Checks, Replays};
 ghost use Rattle.yard.specs.Card.{Reads, Writes};
@@ -78,7 +78,7 @@ pub extern "C" fn altairpeg_replay(
     plans::replay(lengths, inbound, codes, mark != 0, counts, stage, on, at)
 }
 
-// Read: a card's lengths, inbound numbers and codes into the lent buffers, and its mark and numbers as the answer.
+// Read: the lengths, inbound numbers and codes of a card of either edition into the lent buffers, and its mark and numbers as the answer.
 #[no_mangle]
 pub extern "C" fn altairpeg_read(
     card: &[u8],
@@ -92,19 +92,20 @@ pub extern "C" fn altairpeg_read(
     card::read(card, lengths, inbound, codes)
 }
 
-// Write: the card of a plan of an open night into the lent buffer, and its length as the answer.
+// Write: the one card of a plan into the lent buffer, and its length as the answer.
 #[no_mangle]
 pub extern "C" fn altairpeg_write(
     lengths: &[u16],
     inbound: &[u16],
     codes: &[u16],
+    mark: usize,
     counts: Counts,
     card: &mut [u8],
 ) -> Answer
-    ensures { λ r. ⌜ Writes (planGiven (now (lengths .entry)) (now (inbound .entry)) (now (codes .entry)) false counts)
+    ensures { λ r. ⌜ Writes (planGiven (now (lengths .entry)) (now (inbound .entry)) (now (codes .entry)) (closedBy mark) counts)
         (now (card .entry)) r (now (card .exit)) ⌝ }
 {
-    card::write(lengths, inbound, codes, counts, card)
+    card::write(lengths, inbound, codes, mark != 0, counts, card)
 }
 
 // Price: steps times pull plus passes times push, as an exact double.
@@ -117,8 +118,8 @@ pub extern "C" fn altairpeg_price(steps: usize, passes: usize, timings: Timings)
 
 // The fewest tracks on which a car with this code is never pulled early.
 #[no_mangle]
-pub extern "C" fn altairpeg_fewest_tracks(code: u8) -> usize
-    ensures { λ r. ⌜ r ≡ fewestTracks 8 code ⌝ }
+pub extern "C" fn altairpeg_fewest_tracks(code: u16) -> usize
+    ensures { λ r. ⌜ r ≡ fewestTracks (limits .steps) code ⌝ }
 {
     codes::fewest_tracks(code)
 }

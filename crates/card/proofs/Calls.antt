@@ -1,7 +1,7 @@
 -- The two calls together, on what they promise: a written card is read back, and a card that is read is the one that is written.
 use Prim.Native.Nat.{ℕ, _≤_}
 use mathlib.Core.Path.{_≡_, refl, sym, ap, _∙_}
-use mathlib.Core.Bool.{Bool, false}
+use mathlib.Core.Bool.{Bool}
 use mathlib.Core.List.{List, _++_}
 use native.Mathlib.Omega.{arith}
 use lib.ListN.{length, take, length-append}
@@ -12,7 +12,7 @@ use Rattle.yard.specs.Limits.{limits}
 use Rattle.yard.specs.Answers.{written}
 use Rattle.yard.specs.Card.{card, cardPlan, writerAnswer, Writes, Reads}
 use Rattle.yard.proofs.general.Fronts.{front-taken}
-use Rattle.yard.proofs.cards.Card.{cardPlan-cars, cardPlan-codes, cardPlan-open}
+use Rattle.yard.proofs.cards.Card.{cardPlan-cars, cardPlan-codes}
 use Rattle.yard.proofs.cards.CardCalls.{Told, read-told, written-then-read, read-then-written}
 
 -- the plan that a caller of the reader has in hand: the first items of the buffers, and the answer's mark and numbers
@@ -39,15 +39,15 @@ plan-read {bytes} {l} {i} {c} {r} {l₁} {i₁} {c₁} reads e =
     ∙ ap (λ r. planOf (p .night .lengths) (p .night .inbound) (p .night .closed) (r .tracks) (r .room) (r .steps) (p .codes)) (told .answer)
 
 -- What `write` wrote `read` takes back: the mark and the numbers in the answer, the items of each list at the front of its buffer.
-pub write-then-read : {lengths inbound codes : List ℕ} {tracks room steps : ℕ} {before : List ℕ} {w : Answer} {after : List ℕ}
+pub write-then-read : {lengths inbound codes : List ℕ} {closed : Bool} {tracks room steps : ℕ} {before : List ℕ} {w : Answer} {after : List ℕ}
     {l i c : List ℕ} {r : CardAnswer} {l₁ i₁ c₁ : List ℕ}
-    → Writes (planOf lengths inbound false tracks room steps codes) before w after
+    → Writes (planOf lengths inbound closed tracks room steps codes) before w after
     → w .number ≡ 0
     → Reads (take (w .a) after) l i c r l₁ i₁ c₁
     → length lengths ≤ length l
     → length inbound ≤ length i
     → length codes ≤ length c
-    → Told (planOf lengths inbound false tracks room steps codes) l i c r l₁ i₁ c₁
+    → Told (planOf lengths inbound closed tracks room steps codes) l i c r l₁ i₁ c₁
 write-then-read = written-then-read
 
 -- A card that `read` accepts is byte for byte the one that `write` makes of what was read.
@@ -59,7 +59,7 @@ pub read-then-write : {bytes l i c : List ℕ} {r : CardAnswer} {l₁ i₁ c₁ 
     → (w .number ≡ 0) × (take (w .a) after ≡ bytes)
 read-then-write reads e writes h = read-then-written reads e (rw (plan-read reads e) at writes) h
 
--- So no two cards are read as one plan.
+-- So no two cards are read as one plan, over both editions.
 pub one-card : {x y l i c : List ℕ} {r : CardAnswer} {l₁ i₁ c₁ k j d : List ℕ} {s : CardAnswer} {k₁ j₁ d₁ : List ℕ}
     → Reads x l i c r l₁ i₁ c₁
     → Reads y k j d s k₁ j₁ d₁
@@ -71,10 +71,7 @@ one-card {x} {y} {r = r} {l₁ = l₁} {i₁ = i₁} {c₁ = c₁} {s = s} {k₁
     let before = x ++ y in
     let answer : Plan → Answer = λ p. writerAnswer limits p (length before) in
     let after : Plan → List ℕ = λ p. written (answer p) (card p) before in
-    let writes : (p : Plan) → p .night .closed ≡ false → Writes p before (answer p) (after p) = λ p free. record { free = free; answer = refl; bytes = refl } in
-    let mark : Plan → Bool = λ p. p .night .closed in
-    let free-x : mark (planRead r l₁ i₁ c₁) ≡ false = ap mark (plan-read reads-x rx) ∙ cardPlan-open x in
-    let free-y : mark (planRead s k₁ j₁ d₁) ≡ false = ap mark (plan-read reads-y ry) ∙ cardPlan-open y in
-    let first = read-then-write reads-x rx (writes (planRead r l₁ i₁ c₁) free-x) (omega (arith, length-append x y)) in
-    let second = read-then-write reads-y ry (writes (planRead s k₁ j₁ d₁) free-y) (omega (arith, length-append x y)) in
+    let writes : (p : Plan) → Writes p before (answer p) (after p) = λ p. record { answer = refl; bytes = refl } in
+    let first = read-then-write reads-x rx (writes (planRead r l₁ i₁ c₁)) (omega (arith, length-append x y)) in
+    let second = read-then-write reads-y ry (writes (planRead s k₁ j₁ d₁)) (omega (arith, length-append x y)) in
     sym (first .1) ∙ ap (λ p. take (answer p .a) (after p)) same ∙ second .1

@@ -33,32 +33,32 @@ module _
     told = says (r .number) (r .a) (r .b)
 
     told-is : told ≡ judged bytes l i c
-    told-is = ap (λ (q : CardAnswer). says (q .number) (q .a) (q .b)) (promise .answer) ∙ reader-says limits bytes (length l) (length i) (length c)
+    told-is = ap (λ (q : CardAnswer). says (q .number) (q .a) (q .b)) (promise .answer) ∙ reader-says bytes (length l) (length i) (length c)
 
     -- it accepts exactly if all that it asks holds
-    pub read-accepts : (r .number ≡ 0) ↔ Readable limits bytes (length l) (length i) (length c)
+    pub read-accepts : (r .number ≡ 0) ↔ Readable bytes (length l) (length i) (length c)
     read-accepts =
-        let exactly = reader-accepts-exactly limits bytes (length l) (length i) (length c) in
+        let exactly = reader-accepts-exactly bytes (length l) (length i) (length c) in
         let same = ap (λ (a : Answer). a .number) told-is in
         (λ z. exactly .0 (sym same ∙ z), λ readable. same ∙ exactly .1 readable)
 
     -- it refuses with k, A and B exactly if the first ask that does not hold has number k, and tells A and B
-    pub read-refuses : (k a b : ℕ) → 0 < k → (told ≡ says k a b) ↔ FirstFails k a b (readerAsks limits bytes (length l) (length i) (length c))
-    read-refuses k a b pos = told-alike told-is (reader-refuses-exactly limits bytes (length l) (length i) (length c) k a b pos)
+    pub read-refuses : (k a b : ℕ) → 0 < k → (told ≡ says k a b) ↔ FirstFails k a b (readerAsks bytes (length l) (length i) (length c))
+    read-refuses k a b pos = told-alike told-is (reader-refuses-exactly bytes (length l) (length i) (length c) k a b pos)
 
     -- 3 comes exactly if head, size and buffers are right and of the card's lists the inbound one is the first at fault: A is the
     -- first place at fault, B where its number was first listed, 0 for a number out of range
     pub read-listing : (a b : ℕ)
         → (told ≡ says 3 a b) ↔
-        (AllHold (headAsks limits (length bytes) (headOn bytes)) × AllHold (sizeAsks (length bytes) (headOn bytes) (length l) (length i) (length c))
+        (AllHold (headAsks (length bytes) (headOn bytes)) × AllHold (sizeAsks (length bytes) (headOn bytes) (length l) (length i) (length c))
         × ListedWrong (cardPlan bytes .night .lengths) (cardPlan bytes .night .inbound) a b)
-    read-listing a b = told-alike told-is (reader-listing-exactly limits bytes (length l) (length i) (length c) a b)
+    read-listing a b = told-alike told-is (reader-listing-exactly bytes (length l) (length i) (length c) a b)
 
     -- a refused call tells no number of the card, and writes nothing
     pub read-refused : (r .number ≡ 0 → ⊥) → (r ≡ readerSays told noHead) × (l₁ ≡ l) × (i₁ ≡ i) × (c₁ ≡ c)
     read-refused h =
         let fails : judged bytes l i c .number ≡ 0 → ⊥ = λ z. h (ap (λ (a : Answer). a .number) told-is ∙ z) in (
-          promise .answer ∙ (reader-refused limits bytes (length l) (length i) (length c) fails ∙ ap (λ (v : Answer). readerSays v noHead) (sym told-is)),
+          promise .answer ∙ (reader-refused bytes (length l) (length i) (length c) fails ∙ ap (λ (v : Answer). readerSays v noHead) (sym told-is)),
           promise .lengths ∙ written-refused (judged bytes l i c) (cardPlan bytes .night .lengths) l fails,
           promise .inbound ∙ written-refused (judged bytes l i c) (cardPlan bytes .night .inbound) i fails,
           promise .codes ∙ written-refused (judged bytes l i c) (cardPlan bytes .codes) c fails,

@@ -5,11 +5,10 @@ use yard::Head;
 ghost use mathlib.Core.Path.{_≡_};
 ghost use Prim.Native.Nat.{_≤_};
 ghost use lib.ListN.{length};
-ghost use Rattle.yard.specs.Limits.{limits};
 ghost use Rattle.yard.specs.Answers.{says, verdict};
-ghost use Rattle.yard.specs.Card.{headOn, readerVerdict};
+ghost use Rattle.yard.specs.Card.{known, headOn, readerVerdict};
 ghost use Rattle.format.specs.Format.{Bounded};
-ghost use Rattle.card_reader.specs.Reading.{headTests, sizeTests, nightTestsOn, Held};
+ghost use Rattle.card_reader.specs.Reading.{headTests, sizeTests, nightTestsOn, lastTests, Held};
 
 // The numbers at the head of a card, one behind the other.
 pub fn head(card: &[u8]) -> Head
@@ -17,13 +16,15 @@ pub fn head(card: &[u8]) -> Head
 {
     let edition = fields::take(card, fields::look(card, 0), 4);
     let l = format::layout_of(edition.number);
-    let steps = fields::take(card, edition.eye, l.steps);
+    let mark = fields::take(card, edition.eye, l.mark);
+    let steps = fields::take(card, mark.eye, l.steps);
     let tracks = fields::take(card, steps.eye, l.tracks);
     let room = fields::take(card, tracks.eye, l.room);
     let cars = fields::take(card, room.eye, l.cars);
     let trains = fields::take(card, cars.eye, l.trains);
     Head {
         edition: edition.number,
+        mark: mark.number,
         steps: steps.number,
         tracks: tracks.number,
         room: room.number,
@@ -32,14 +33,29 @@ pub fn head(card: &[u8]) -> Head
     }
 }
 
-// 10, 11, 10 and 1: what the head alone shows.
+// Whether a number is an edition's.
+fn known(edition: usize) -> bool
+    ensures { λ r. ⌜ r ≡ known edition ⌝ }
+{
+    (edition == 1) | (edition == 2)
+}
+
+// 10, 11, 10 and 1: what the head alone shows, by the limits of its edition.
 fn head_tests(size: usize, head: Head) -> Answer
     ensures { λ r. ⌜ r ≡ verdict (headTests size head) (says 0 0 0) ⌝ }
 {
     let needed = format::head_length(head);
-    let counts = intake::counts(head.cars, head.trains, head.tracks, head.room, head.steps);
+    let most = format::limits_of(head.edition);
+    let counts = intake::counts(
+        most,
+        head.cars,
+        head.trains,
+        head.tracks,
+        head.room,
+        head.steps,
+    );
     let whole = intake::unless(intake::test(needed <= size, 10, needed), counts);
-    let edition = intake::unless(intake::test(head.edition == 1, 11, head.edition), whole);
+    let edition = intake::unless(intake::test(known(head.edition), 11, head.edition), whole);
     intake::unless(intake::test(1 <= size, 10, 1), edition)
 }
 
@@ -69,11 +85,29 @@ fn lists(card: &[u8], head: Head, lengths: &mut [u16], inbound: &mut [u16]) -> A
     let cars = head.cars;
     fields::fields(card, at.lengths, l.number, trains, lengths);
     fields::fields(card, at.inbound, l.number, cars, inbound);
-    intake::lists(&lengths[0..trains], &inbound[0..cars])
+    lists::lists(&lengths[0..trains], &inbound[0..cars])
+}
+
+// 12 and 17: the card ends where its head says, and its edition is the one of its plan.
+fn last_tests(card: &[u8], head: Head) -> Answer
+    requires { ⌜ Bounded head ⌝ }
+    ensures { λ r. ⌜ r ≡ verdict (lastTests (now (card .entry)) head) (says 0 0 0) ⌝ }
+{
+    let at = format::places_of(head);
+    let ended = intake::test(fields::ends(card, at.end), 12, format::length(head));
+    let right = format::edition_for(
+        head.mark != 0,
+        head.cars,
+        head.trains,
+        head.tracks,
+        head.room,
+        head.steps,
+    );
+    intake::unless(ended, intake::test(right == head.edition, 17, 0))
 }
 
 // The verdict on a card with this head, for buffers of these sizes. The lists of an accepted card stand in two arrays, the trains'
-// lengths and the cars' order, so that a refused card writes nothing.
+// lengths and the cars' order, so that a refused card writes nothing; they hold those of every head that is not refused.
 pub fn verdict(
     card: &[u8],
     head: Head,
@@ -83,8 +117,8 @@ pub fn verdict(
     trains: &mut [u16],
     order: &mut [u16],
 ) -> Answer
-    requires { ⌜ (head ≡ headOn (now card)) × (limits .trains ≤ length (now trains)) × (limits .cars ≤ length (now order)) ⌝ }
-    ensures { λ r. ⌜ (r ≡ readerVerdict limits (now (card .entry)) lengths inbound codes)
+    requires { ⌜ (head ≡ headOn (now card)) × (Bounded head → (head .trains ≤ length (now trains)) × (head .cars ≤ length (now order))) ⌝ }
+    ensures { λ r. ⌜ (r ≡ readerVerdict (now (card .entry)) lengths inbound codes)
         × (r .number ≡ 0 → Held (now (card .entry)) head (now (trains .exit)) (now (order .exit))) ⌝ }
 {
     let first = head_tests(card.len(), head);
@@ -99,6 +133,5 @@ pub fn verdict(
     if night.number != 0 {
         return night;
     }
-    let at = format::places_of(head);
-    intake::test(fields::ends(card, at.end), 12, format::length(head))
+    last_tests(card, head)
 }

@@ -25,7 +25,8 @@ fn draw_head(card: &mut [u8], head: Head) -> Pen
         pending: 0,
     };
     let edition = pens::put(card, start, 4, head.edition);
-    let steps = pens::put(card, edition, l.steps, head.steps);
+    let mark = pens::put(card, edition, l.mark, head.mark);
+    let steps = pens::put(card, mark, l.steps, head.steps);
     let tracks = pens::put(card, steps, l.tracks, head.tracks);
     let room = pens::put(card, tracks, l.room, head.room);
     let cars = pens::put(card, room, l.cars, head.cars);
@@ -50,11 +51,18 @@ pub fn answer(lengths: &[u16], inbound: &[u16], codes: &[u16], head: Head, size:
     requires { ⌜ head ≡ headOf (planWith head (now lengths) (now inbound) (now codes)) ⌝ }
     ensures { λ r. ⌜ r ≡ writerAnswer limits (planWith head (now (lengths .entry)) (now (inbound .entry)) (now (codes .entry))) size ⌝ }
 {
-    let counts = intake::counts(head.cars, head.trains, head.tracks, head.room, head.steps);
+    let counts = intake::counts(
+        intake::limits(),
+        head.cars,
+        head.trains,
+        head.tracks,
+        head.room,
+        head.steps,
+    );
     if counts.number != 0 {
         return counts;
     }
-    let night = intake::lists(lengths, inbound);
+    let night = lists::lists(lengths, inbound);
     if night.number != 0 {
         return night;
     }
@@ -63,5 +71,5 @@ pub fn answer(lengths: &[u16], inbound: &[u16], codes: &[u16], head: Head, size:
     }
     let bytes = format::length(head);
     let last = intake::unless(intake::list(6, bytes <= size), intake::answer(0, bytes, 0));
-    intake::unless(intake::codes(codes, head.steps), last)
+    intake::unless(lists::codes(codes, head.steps), last)
 }

@@ -10,6 +10,7 @@ use Rattle.format.specs.declared.Places.{Places}
 
 -- widths that an eye and a pen can take at once
 pub record Narrow (l : Layout) : Type 0 where
+  pub mark : l .mark ≤ 16
   pub steps : l .steps ≤ 16
   pub tracks : l .tracks ≤ 16
   pub room : l .room ≤ 16

@@ -37,7 +37,7 @@ labelled-then : (label : String) (n : ℕ) (rest : List ℕ) → length (labelle
 labelled-then label n rest = length-append (labelled label n) rest ∙ ap (λ k. k + length rest) (labelled-length label n)
 
 -- the lines
-pub refusal-short : (number a b : ℕ) → length (refusalLine number a b) ≤ 4096
+pub refusal-short : (number a b : ℕ) → length (refusalLine number a b) ≤ 74
 unfolding refusalLine
 refusal-short number a b =
     let last = labelled-then " " b (ascii "\n") in
@@ -65,15 +65,15 @@ counts-short h W C n m passes =
       width-most passes,
     )
 
-cars-short : (a n : ℕ) → a + n ≤ 1000 → length (carList (upFrom a n)) ≤ 4 * n
+cars-short : (a n : ℕ) → a + n ≤ 10000 → length (carList (upFrom a n)) ≤ 5 * n
 cars-short a zero w = omega arith
 cars-short a (suc n) w =
     omega
-    (arith, labelled-then " " a (carList (upFrom (suc a) n)), width-below a 3 (omega arith) (omega arith) (omega arith), cars-short (suc a) n (omega arith))
+    (arith, labelled-then " " a (carList (upFrom (suc a) n)), width-below a 4 (omega arith) (omega arith) (omega arith), cars-short (suc a) n (omega arith))
 
-pub train-short : (t a n : ℕ) → t < 100 → a + n ≤ 1000 → length (trainLine t (upFrom a n)) ≤ 10 + 4 * n
+pub train-short : (t a n : ℕ) → t < 1000 → a + n ≤ 10000 → length (trainLine t (upFrom a n)) ≤ 11 + 5 * n
 unfolding trainLine
 train-short t a n few w =
     let cars = carList (upFrom a n) in
     let last : length (cars ++ ascii "\n") ≡ length cars + 1 = length-append cars (ascii "\n") in
-    omega (arith, labelled-then "train " t (ascii ":" ++ (cars ++ ascii "\n")), last, cars-short a n w, width-below t 2 (omega arith) (omega arith) few)
+    omega (arith, labelled-then "train " t (ascii ":" ++ (cars ++ ascii "\n")), last, cars-short a n w, width-below t 3 (omega arith) (omega arith) few)

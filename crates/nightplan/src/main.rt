@@ -1,6 +1,6 @@
 // Reads a card on standard input, and writes the card of the derived plan, or prints the refusal.
 fn main() {
-    let mut card = io::buffer();
+    let mut card = [0u8; report::BUFFER];
     let read = report::input(&mut card);
     if !report::said(
         read.whole,
@@ -10,7 +10,7 @@ fn main() {
         return;
     }
     let n = read.bytes;
-    let mut out = io::buffer();
+    let mut out = [0u8; report::BUFFER];
     let end = report::nightplan(&card[..n], &mut out);
     report::said(
         io::write_all(libc::STDOUT_FILENO, &out[..end]),

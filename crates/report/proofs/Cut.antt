@@ -8,24 +8,24 @@ use lib.ListN.{length, take, drop, take-append-drop}
 use lib.Seq.{length-take-le, take-all}
 use Rattle.yard.specs.Limits.{limits}
 use Rattle.yard.specs.Night.{Plan}
-use Rattle.yard.specs.Card.{cardPlan, readerVerdict}
+use Rattle.yard.specs.Card.{cardPlan}
 use Rattle.yard.proofs.general.Numbers.{le-or-lt}
 use Rattle.yard.proofs.cards.CardCut.{reader-cut, long-refused}
 use Rattle.lines.specs.Lines.{refusalLine}
-use Rattle.report.specs.Programs.{ofCard}
+use Rattle.report.specs.Programs.{readAs, ofCard}
 use Rattle.report.proofs.Programs.{told-refused}
 
 -- What a program puts out for an input is what it puts out for its first bytes, of which it is given one more than any card has.
-pub input-cut : (out : Plan → List ℕ) (k : ℕ) (input : List ℕ) → 1238 ≤ k → ofCard out (take k input) ≡ ofCard out input
+pub input-cut : (out : Plan → List ℕ) (k : ℕ) (input : List ℕ) → 15272 ≤ k → ofCard out (take k input) ≡ ofCard out input
 input-cut out k input enough =
     ⊎-elim (λ all. ap (ofCard out) (take-all k input all))
     (λ more.
     let given = take k input in
-    let long : 1238 ≤ length given = omega (arith, length-take-le k input (omega arith)) in
+    let long : 15272 ≤ length given = omega (arith, length-take-le k input (omega arith)) in
     let whole : given ++ drop k input ≡ input = take-append-drop k input in
-    let same : readerVerdict limits input 64 512 512 ≡ readerVerdict limits given 64 512 512 =
-    ap (λ l. readerVerdict limits l 64 512 512) (sym whole) ∙ reader-cut 64 512 512 given (drop k input) long in
-    told-refused (readerVerdict limits given 64 512 512) (out (cardPlan given)) (long-refused 64 512 512 given long)
+    let same : readAs input ≡ readAs given =
+    ap readAs (sym whole) ∙ reader-cut (limits .trains) (limits .cars) (limits .cars) given (drop k input) long in
+    told-refused (readAs given) (out (cardPlan given)) (long-refused (limits .trains) (limits .cars) (limits .cars) given long)
     ∙ ap (λ v. refusalLine (v .number) (v .a) (v .b)) (sym same)
-    ∙ sym (told-refused (readerVerdict limits input 64 512 512) (out (cardPlan input)) (long-refused 64 512 512 input (omega arith))))
+    ∙ sym (told-refused (readAs input) (out (cardPlan input)) (long-refused (limits .trains) (limits .cars) (limits .cars) input (omega arith))))
     (le-or-lt (length input) k)

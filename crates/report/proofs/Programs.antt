@@ -18,7 +18,7 @@ use Rattle.yard.specs.Derived.{stepsNeeded, derivedCodes, derivedPlan}
 use Rattle.yard.specs.Answers.{says, onto}
 use Rattle.yard.specs.Demands.{BuildsTrains}
 use Rattle.yard.specs.Calls.{Checks, Derives, checkAnswer, deriveAnswer, deriveTests}
-use Rattle.yard.specs.Card.{card, cardPlan, readerVerdict, writerTests, writerAnswer, Reads, Writes}
+use Rattle.yard.specs.Card.{card, cardPlan, writerTests, writerAnswer, Reads, Writes}
 use Rattle.yard.proofs.general.Numbers.{le-or-lt}
 use Rattle.yard.proofs.general.Fronts.{front-taken, front-within}
 use Rattle.yard.proofs.yards.DerivedPlan.{length-by-car}
@@ -28,7 +28,7 @@ use Rattle.yard.proofs.cards.CardCalls.{read-told, reader-says}
 use Rattle.card.proofs.Calls.{plan-read}
 use Rattle.lines.specs.Text.{Adds}
 use Rattle.lines.specs.Lines.{refusalLine, countsLine, trainLine, eachTo}
-use Rattle.report.specs.Programs.{unlessRefused, ofCard, trainLines, checkedLines, ofDerived, cardIn}
+use Rattle.report.specs.Programs.{unlessRefused, readAs, deriveAs, ofCard, trainLines, checkedLines, ofDerived, cardIn}
 use Rattle.lines.proofs.Adding.{adds-same, adds-front}
 use Rattle.report.proofs.Yields.{Good, checked-good, derived-writes, derived-no-room}
 
@@ -94,11 +94,13 @@ module _ (p : Plan) {r : Answer} (checks : Checks p r) where
 abbrev answerOf : CardAnswer → Answer
 answerOf r = says (r .number) (r .a) (r .b)
 
-module _ {bytes : List ℕ} {r : CardAnswer} {l₁ i₁ c₁ : List ℕ} (reads : Reads bytes (empty 64) (empty 512) (empty 512) r l₁ i₁ c₁) where
+module _ {bytes : List ℕ} {r : CardAnswer} {l₁ i₁ c₁ : List ℕ}
+    (reads : Reads bytes (empty (limits .trains)) (empty (limits .cars)) (empty (limits .cars)) r l₁ i₁ c₁) where
   module _ (out : Plan → List ℕ) where
-    promised : answerOf r ≡ readerVerdict limits bytes 64 512 512
+    promised : answerOf r ≡ readAs bytes
     promised =
-        ap answerOf (rw (empty-length 64, empty-length 512) at (reads .answer)) ∙ reader-says limits bytes 64 512 512
+        ap answerOf (rw (empty-length (limits .trains), empty-length (limits .cars)) at (reads .answer))
+        ∙ reader-says bytes (limits .trains) (limits .cars) (limits .cars)
 
     pub card-refused : (r .number ≡ 0 → ⊥) → refusalLine (r .number) (r .a) (r .b) ≡ ofCard out bytes
     card-refused h = refusal-told (out (cardPlan bytes)) promised h
@@ -106,70 +108,72 @@ module _ {bytes : List ℕ} {r : CardAnswer} {l₁ i₁ c₁ : List ℕ} (reads 
     pub card-done : {same : Plan → List ℕ}
         → same ≡ out
         → r .number ≡ 0
-        → same (planOf (take (r .trains - 0) l₁) (take (r .cars - 0) i₁) false (r .tracks) (r .room) (r .steps) (take (r .cars - 0) c₁)) ≡ ofCard out bytes
+        → same (planOf (take (r .trains - 0) l₁) (take (r .cars - 0) i₁) (closedBy (r .mark)) (r .tracks) (r .room) (r .steps) (take (r .cars - 0) c₁))
+        ≡ ofCard out bytes
     card-done {same} f e =
-        ap₂ (λ (m n : ℕ). same (planOf (take m l₁) (take n i₁) false (r .tracks) (r .room) (r .steps) (take n c₁))) (sub-zero (r .trains)) (sub-zero (r .cars))
-        ∙ ap (λ (b : Bool). same (planOf (take (r .trains) l₁) (take (r .cars) i₁) b (r .tracks) (r .room) (r .steps) (take (r .cars) c₁)))
-        (sym (ap (λ (q : CardAnswer). closedBy (q .mark)) (read-told reads e .answer)))
+        ap₂ (λ (m n : ℕ). same (planOf (take m l₁) (take n i₁) (closedBy (r .mark)) (r .tracks) (r .room) (r .steps) (take n c₁)))
+        (sub-zero (r .trains)) (sub-zero (r .cars))
         ∙ ap same (plan-read reads e)
         ∙ ap (λ o. o (cardPlan bytes)) f
-        ∙ sym (told-done (readerVerdict limits bytes 64 512 512) (out (cardPlan bytes)) (sym (ap (λ q. q .number) promised) ∙ e))
+        ∙ sym (told-done (readAs bytes) (out (cardPlan bytes)) (sym (ap (λ q. q .number) promised) ∙ e))
 
   -- the lists that were read
   module _ (e : r .number ≡ 0) where
     pub lengths-within : r .trains ≤ length l₁
     lengths-within =
         let told = read-told reads e in
-        front-within (cardPlan bytes .night .lengths) (empty 64) (told .lengths) (sym (ap (λ q. q .trains) (told .answer)))
+        front-within (cardPlan bytes .night .lengths) (empty (limits .trains)) (told .lengths) (sym (ap (λ q. q .trains) (told .answer)))
 
     pub inbound-within : r .cars ≤ length i₁
     inbound-within =
         let told = read-told reads e in
-        front-within (cardPlan bytes .night .inbound) (empty 512) (told .inbound) (sym (ap (λ q. q .cars) (told .answer)))
+        front-within (cardPlan bytes .night .inbound) (empty (limits .cars)) (told .inbound) (sym (ap (λ q. q .cars) (told .answer)))
 
     pub codes-within : r .cars ≤ length c₁
     codes-within =
         let told = read-told reads e in
-        front-within (cardPlan bytes .codes) (empty 512) (told .codes)
+        front-within (cardPlan bytes .codes) (empty (limits .cars)) (told .codes)
         (cardPlan-codes bytes ∙ sym (cardPlan-cars bytes) ∙ sym (ap (λ q. q .cars) (told .answer)))
 
 -- nightplan, for a night: derive refuses it, or its plan is in hand
-module _ (n : Night) {after : List ℕ} {r : Answer} (derives : Derives n 8 (empty 512) r after) where
-  found : r ≡ deriveAnswer limits n 8 512
-  found = rw (empty-length 512) at (derives .answer)
+module _ (n : Night) {after : List ℕ} {r : Answer} (derives : Derives n (limits .steps) (empty (limits .cars)) r after) where
+  found : r ≡ deriveAs n
+  found = rw (empty-length (limits .cars)) at (derives .answer)
 
   pub derive-refused : (out : Plan → List ℕ) → (r .number ≡ 0 → ⊥) → refusalLine (r .number) (r .a) (r .b) ≡ ofDerived out n
   unfolding ofDerived
   derive-refused out h = refusal-told (out (derivedPlan n)) found h
 
   module _ (e : r .number ≡ 0) where
-    derive-done : deriveAnswer limits n 8 512 .number ≡ 0
+    derive-done : deriveAs n .number ≡ 0
     derive-done = sym (ap (λ q. q .number) found) ∙ e
 
     codes-length : length (derivedCodes n) ≡ length (n .inbound)
     unfolding derivedCodes
     codes-length = length-by-car _ (length (n .inbound))
 
-    codes-written : after ≡ onto (derivedCodes n) (empty 512)
+    codes-written : after ≡ onto (derivedCodes n) (empty (limits .cars))
     codes-written =
         derives .codes
-        ∙ written-accepted (deriveAnswer limits n 8 (length (empty 512))) (derivedCodes n) (empty 512) (sym (ap (λ q. q .number) (derives .answer)) ∙ e)
+        ∙ written-accepted (deriveAnswer limits n (limits .steps) (length (empty (limits .cars)))) (derivedCodes n) (empty (limits .cars))
+        (sym (ap (λ q. q .number) (derives .answer)) ∙ e)
 
     pub derived-within : length (n .inbound) ≤ length after
-    derived-within = front-within (derivedCodes n) (empty 512) codes-written codes-length
+    derived-within = front-within (derivedCodes n) (empty (limits .cars)) codes-written codes-length
 
     steps-needed : r .a ≡ stepsNeeded n
     unfolding deriveAnswer
     steps-needed =
         ap (λ q. q .a)
-        (found ∙ verdict-done (deriveTests limits n 8 512) (says 0 (stepsNeeded n) (passes (derivedPlan n) (stepsNeeded n))) derive-done)
+        (found ∙ verdict-done (deriveTests limits n (limits .steps) (limits .cars)) (says 0 (stepsNeeded n) (passes (derivedPlan n) (stepsNeeded n)))
+        derive-done)
 
     -- the plan that is drawn is the derived one
     plan-derived : planOf (n .lengths) (n .inbound) (n .closed) (n .tracks) (n .room) (r .a) (take (length (n .inbound) - 0) after) ≡ derivedPlan n
     unfolding derivedPlan
     plan-derived =
         ap₂ (λ (h : ℕ) (codes : List ℕ). record { night = n; steps = h; codes = codes }) steps-needed
-        (ap (λ k. take k after) (sub-zero (length (n .inbound))) ∙ front-taken (derivedCodes n) (empty 512) codes-written codes-length)
+        (ap (λ k. take k after) (sub-zero (length (n .inbound))) ∙ front-taken (derivedCodes n) (empty (limits .cars)) codes-written codes-length)
 
     -- it is drawn: the buffer is too short, or the card stands at its front
     module _
@@ -189,7 +193,7 @@ module _ (n : Night) {after : List ℕ} {r : Answer} (derives : Derives n 8 (emp
         unfolding ofDerived
         puts fits q =
             let p = derivedPlan n in
-            sym (ap (λ b. cond b (card p) (refusalLine 4 6 0)) q) ∙ sym (told-done (deriveAnswer limits n 8 512) (cardIn (length unused) p) derive-done)
+            sym (ap (λ b. cond b (card p) (refusalLine 4 6 0)) q) ∙ sym (told-done (deriveAs n) (cardIn (length unused) p) derive-done)
 
         pub drawn-refused : {y : List ℕ} {end : ℕ}
             → (w .number ≡ 0 → ⊥)

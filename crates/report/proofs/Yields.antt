@@ -10,18 +10,19 @@ use Rattle.yard.specs.Limits.{limits}
 use Rattle.yard.specs.Night.{Night, Plan}
 use Rattle.yard.specs.Derived.{derivedPlan}
 use Rattle.yard.specs.Answers.{says, lengthAsk, bufferAsk, codeAsk}
-use Rattle.yard.specs.Calls.{checkAnswer, deriveAnswer, GoodPlan, opening}
+use Rattle.yard.specs.Calls.{checkAnswer, GoodPlan, opening}
 use Rattle.yard.specs.Card.{card, writerAnswer, Writable}
 use Rattle.yard.specs.Demands.{Listed, BuildsTrains}
 use Rattle.yard.proofs.calls.Asks.{fails-behind}
 use Rattle.yard.proofs.Demands.{opening-holds, check-accepts-exactly, derive-accepts-exactly, derive-least}
 use Rattle.yard.proofs.CardDemands.{writer-accepts-exactly, writer-refuses-exactly}
 use Rattle.yard.proofs.cards.CardCalls.{written-longest}
+use Rattle.report.specs.Programs.{deriveAs}
 
 -- what a checked plan is known to be
 pub record Good (p : Plan) : Type 0 where
-  pub cars : length (p .night .inbound) ≤ 512
-  pub trains : length (p .night .lengths) ≤ 64
+  pub cars : length (p .night .inbound) ≤ limits .cars
+  pub trains : length (p .night .lengths) ≤ limits .trains
   pub listed : Listed (p .night .lengths) (p .night .inbound)
   pub builds : BuildsTrains p
 
@@ -40,13 +41,13 @@ module _ (p : Plan) (accepted : checkAnswer limits p .number ≡ 0) where
         builds = whole .builds;
       }
 
-module _ (n : Night) (derived : deriveAnswer limits n 8 512 .number ≡ 0) where
+module _ (n : Night) (derived : deriveAs n .number ≡ 0) where
   writable : (size : ℕ) → length (card (derivedPlan n)) ≤ size → Writable limits (derivedPlan n) size
   unfolding derivedPlan
   writable size fits =
-      let asked = derive-accepts-exactly limits n 8 512 .0 derived in
+      let asked = derive-accepts-exactly limits n (limits .steps) (limits .cars) .0 derived in
       let counts = asked .given .given .counts in
-      let plan = derive-least limits n 8 512 derived .0 in
+      let plan = derive-least limits n (limits .steps) (limits .cars) derived .0 in
       let kept = asked .sortable in
       let few = le-trans (plan .least (kept .steps) (kept .codes) (kept .sorts)) (kept .within) in
       record {
@@ -65,10 +66,10 @@ module _ (n : Night) (derived : deriveAnswer limits n 8 512 .number ≡ 0) where
   derived-writes size fits =
       writer-accepts-exactly limits (derivedPlan n) size .1 (writable size fits)
 
-  pub derived-longest : length (card (derivedPlan n)) ≤ 1237
+  pub derived-longest : length (card (derivedPlan n)) ≤ 15271
   derived-longest =
       let size = length (card (derivedPlan n)) in
-      written-longest (derivedPlan n) size (derived-writes size (le-refl size))
+      written-longest (derivedPlan n) size (derived-writes size (le-refl size)) .0
 
   pub derived-no-room : (size : ℕ) → size < length (card (derivedPlan n)) → writerAnswer limits (derivedPlan n) size ≡ says 4 6 0
   derived-no-room size short =

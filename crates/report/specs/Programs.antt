@@ -13,14 +13,21 @@ use Rattle.yard.specs.Calls.{checkAnswer, deriveAnswer}
 use Rattle.yard.specs.Card.{card, cardPlan, readerVerdict}
 use Rattle.lines.specs.Lines.{refusalLine, countsLine, trainLine, eachTo}
 
+-- the bytes of a program's buffers: no card and no text is longer
+abbrev pub bufferSize : ℕ
+bufferSize = 24576
+
 -- what is put out where an answer is done, and its refusal line where it is not
 abbrev pub unlessRefused : Answer → List ℕ → List ℕ
 unlessRefused r out = cond (eqb (r .number) 0) out (refusalLine (r .number) (r .a) (r .b))
 
--- what is put out for the plan of a card that the reader accepts; the program's buffers hold any night
+-- the reader's verdict with the program's buffers, which hold any night; and what is put out for the plan of a card that it accepts
+abbrev pub readAs : List ℕ → Answer
+readAs bytes = readerVerdict bytes (limits .trains) (limits .cars) (limits .cars)
+
 abbrev pub ofCard : (Plan → List ℕ) → List ℕ → List ℕ
 ofCard out bytes =
-    unlessRefused (readerVerdict limits bytes (limits .trains) (limits .cars) (limits .cars)) (out (cardPlan bytes))
+    unlessRefused (readAs bytes) (out (cardPlan bytes))
 
 -- each train of a plan as the replay built it, front first
 unfoldable pub trainLines : Plan → List ℕ
@@ -38,11 +45,14 @@ checkedLines p =
 unfoldable pub nightcardText : List ℕ → List ℕ
 nightcardText bytes = ofCard checkedLines bytes
 
--- what is put out for the plan that is derived for a night with limit 8
-unfoldable pub ofDerived : (Plan → List ℕ) → Night → List ℕ
-ofDerived out n = unlessRefused (deriveAnswer limits n 8 (limits .cars)) (out (derivedPlan n))
+-- derive's answer with the largest limit, 16, and what is put out for the plan that it derives
+abbrev pub deriveAs : Night → Answer
+deriveAs n = deriveAnswer limits n (limits .steps) (limits .cars)
 
--- nightplan: the card of the plan that is derived for the card's night
+unfoldable pub ofDerived : (Plan → List ℕ) → Night → List ℕ
+ofDerived out n = unlessRefused (deriveAs n) (out (derivedPlan n))
+
+-- nightplan: the card of the plan that is derived for the card's night, whose mark it keeps
 unfoldable pub nightplanBytes : List ℕ → List ℕ
 nightplanBytes bytes = ofCard (λ p. ofDerived card (p .night)) bytes
 

@@ -9,7 +9,7 @@ pub struct Taken {
     pub bytes: usize,
 }
 
-// Reads standard input. The first 4,096 bytes of an input give the answer of the whole (`nightcard-puts-out`,
+// Reads standard input. The first 24,576 bytes of an input give the answer of the whole (`nightcard-puts-out`,
 // `nightplan-puts-out` in proofs/Outcome.antt), so a program reads no more than its buffer holds.
 pub fn input(card: &mut [u8]) -> Taken
     ensures { λ r. ⌜ Counts (r .bytes) (now (card .exit)) ⌝ }

@@ -1,6 +1,5 @@
 -- The proof of `verdict`: the tests are made in parts, and a part that refuses is the verdict.
 use mathlib.Core.Path.{_≡_, sym, ap, _∙_}
-use native.Mathlib.Omega.{arith}
 use lib.ListN.{length}
 use denote.Ref.{now}
 use borrow.Author.Needs.{needs}
@@ -8,8 +7,7 @@ use Rattle.yard.specs.Answers.{says, verdict}
 use Rattle.yard.specs.Card.{headOn}
 use Rattle.format.specs.Format.{Bounded}
 use Rattle.card_reader.specs.Reading.{headTests, sizeTests, nightTestsOn}
-use Rattle.format.proofs.Widths.{end-bounded}
-use Rattle.card_reader.proofs.Reading.{head-bounded, refused-head, refused-sizes, refused-lists, then-end}
+use Rattle.card_reader.proofs.Reading.{head-bounded, refused-head, refused-sizes, refused-lists, then-last}
 use Rattle.card_reader.proofs.verdict.Statement.{statement}
 use Rattle.card_reader.proofs.verdict.Tie as tie
 
@@ -73,35 +71,33 @@ returns-3 c =
 
 returns-4 : tie.Need-returns-4
 returns-4 c =
-    let ended = c .before .before in
-    let else3 = ended .before .before in
+    let else3 = c .before in
     let listed = else3 .before .before .before .before .before .before in
     let else2 = listed .before .before .before in
     let else1 = else2 .before .before .before in
     let start = else1 .before .before .before .before .before .before in
     let args = start .args in (
-      rw (c .test .ensures, c .before .length .ensures, ended .ends .ensures, ended .before .places-of .ensures, start .pre .0)
-          (then-end (now (args .card)) (args .lengths) (args .inbound) (args .codes) (first (else1 .before .before)) (else1 .if1 .left)
+      then-last (now (args .card)) (args .lengths) (args .inbound) (args .codes) (first (else1 .before .before)) (else1 .if1 .left)
           (second (else2 .before .before))
           (else2 .if2 .left)
           (third listed)
-          (else3 .if3 .left)),
+          (else3 .if3 .left)
+          (rw (start .pre .0) at (c .last-tests .ensures)),
       λ _. listed .lists .ensures .1,
     )
 
 lists-requires : tie.Need-lists-requires
 lists-requires c κs =
-    let within = bounded (c .before .before .before .before .before) in
-    (within, omega (arith, within .trains), omega (arith, within .cars))
+    let else1 = c .before .before .before .before .before in
+    let within = bounded else1 in
+    let room = else1 .before .before .before .before .before .before .pre .1 within in
+    (within, room .0, room .1)
 
 -- the counts have passed where the lists have been read
 bounded-read : (c : tie.Else3)
     → let else1 = c .before .before .before .before .before .before .before .before .before .before .before .before in
     Bounded (else1 .before .before .before .before .before .before .args .head)
 bounded-read c = bounded (c .before .before .before .before .before .before .before .before .before .before .before .before)
-
-ends-requires : tie.Need-ends-requires
-ends-requires c κs = rw (c .places-of .ensures) (omega (arith, end-bounded (bounded-read (c .before))))
 
 pub verdict-spec : {M : Type 1} → statement M
 verdict-spec =
@@ -116,9 +112,6 @@ verdict-spec =
     (λ c. search needs)
     returns-3
     (λ c κs. bounded-read c)
-    ends-requires
-    (λ c κs. bounded-read (c .before .before))
-    (λ c κs. search needs)
     (λ c. search needs)
     (λ c. search needs)
     returns-4)

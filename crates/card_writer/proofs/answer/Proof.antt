@@ -18,26 +18,26 @@ plan c = planWith (c .args .head) (now (c .args .lengths)) (now (c .args .inboun
 
 -- the answer to the counts of the head is that to the counts of the plan
 counted : (c : tie.After-counts)
-    → let p = plan (c .before .before .before .before) in
+    → let p = plan (c .before .before .before .before .before) in
     c .counts .result ≡ verdict (nightCounts limits (p .night) (p .steps)) (says 0 0 0)
-counted c = rw (c .before .before .before .before .pre) at (c .counts .ensures)
+counted c = rw (c .before .limits .ensures, c .before .before .before .before .before .pre) at (c .counts .ensures)
 
 -- the counts have passed
-bounded : (c : tie.Else1) → Bounded (headOf (plan (c .before .before .before .before .before .before)))
+bounded : (c : tie.Else1) → Bounded (headOf (plan (c .before .before .before .before .before .before .before)))
 bounded c =
-    let start = c .before .before .before .before .before .before in
+    let start = c .before .before .before .before .before .before .before in
     counts-bounded (plan start) (start .args .size) (counted (c .before .before)) (c .if1 .left)
 
 returns : tie.Need-returns
 returns c =
-    let start = c .before .before .before .before .before .before in
+    let start = c .before .before .before .before .before .before .before in
     refused-counts (plan start) (start .args .size) (counted (c .before .before)) (c .if1 .taken)
 
 returns-2 : tie.Need-returns-2
 returns-2 c =
     let at-lists = c .before .before in
     let at-counts = at-lists .before .before .before in
-    let start = at-counts .before .before .before .before in
+    let start = at-counts .before .before .before .before .before in
     refused-lists (plan start) (start .args .size) (counted at-counts) (at-lists .before .if1 .left) (at-lists .lists .ensures) (c .if2 .taken)
 
 returns-3 : tie.Need-returns-3
@@ -45,7 +45,7 @@ returns-3 c =
     let at-else = c .before .before in
     let at-lists = at-else .before .before in
     let at-counts = at-lists .before .before .before in
-    let start = at-counts .before .before .before .before in
+    let start = at-counts .before .before .before .before .before in
     c .answer .ensures
     ∙ refused-coded (plan start) (start .args .size) (counted at-counts) (at-lists .before .if1 .left) (at-lists .lists .ensures) (at-else .if2 .left)
     (c .before .if3 .taken)
@@ -56,7 +56,7 @@ returns-4 c =
     let at-else = at-length .before .before in
     let at-lists = at-else .before .before in
     let at-counts = at-lists .before .before .before in
-    let start = at-counts .before .before .before .before in
+    let start = at-counts .before .before .before .before .before in
     let long : at-length .length .result ≡ cardLength (headOf (plan start)) = at-length .length .ensures ∙ ap cardLength (start .pre) in
     rw (
       c .unless2 .ensures,
@@ -74,7 +74,7 @@ lists-requires c κs = (bounded c .trains, bounded c .cars)
 length-requires : tie.Need-length-requires
 length-requires c κs =
     let at-else = c .before .before .before .before in
-    rw (at-else .before .before .before .before .before .before .pre) (bounded at-else)
+    rw (at-else .before .before .before .before .before .before .before .pre) (bounded at-else)
 
 codes-requires : tie.Need-codes-requires
 codes-requires c κs =
@@ -85,6 +85,7 @@ pub answer-spec : {M : Type 1} → statement M
 answer-spec =
     tie.close
     (tie.spec
+    (λ c κs. tt)
     (λ c κs. tt)
     returns
     lists-requires

@@ -7,7 +7,7 @@ use lib.ListN.{length}
 use denote.Ref.{now}
 use borrow.Author.Needs.{needs}
 use Rattle.yard.specs.Night.{Plan}
-use Rattle.yard.specs.Card.{layout, headOf}
+use Rattle.yard.specs.Card.{layout, editionOf, headOf}
 use Rattle.yard.proofs.cards.Card.{headBits}
 use Rattle.bits.specs.Pens.{fresh, Draws}
 use Rattle.bits.proofs.Drawing.{draws-then, draws-whole}
@@ -29,11 +29,12 @@ module _ (c : tie.After-layout-of) where
   abbrev card : List ℕ
   card = now (start .args .card)
 
-  laid : c .layout-of .result ≡ layout 1
+  laid : c .layout-of .result ≡ layout (editionOf plan)
   laid = c .layout-of .ensures .is ∙ ap (λ h. layout (h .edition)) (start .pre .head)
 
-abbrev w : ℕ
-w = layout 1 .number
+  -- the width of a number
+  abbrev w : ℕ
+  w = layout (editionOf plan) .number
 
 -- what is drawn, and where the pen stands after it: the head
 module _ (c : tie.After-draw-head) where
@@ -54,11 +55,12 @@ module _ (c : tie.After-puts) where
   abbrev laid2 : tie.After-layout-of
   laid2 = laid1 (c .before .before .before .before)
 
-  lengths : Draws 31 (run w (plan laid2 .night .lengths)) (at-head .draw-head .last .0) (at-head .draw-head .result) (c .puts .last .0) (c .puts .result)
+  lengths : Draws 31 (run (w laid2) (plan laid2 .night .lengths)) (at-head .draw-head .last .0) (at-head .draw-head .result) (c .puts .last .0)
+      (c .puts .result)
   lengths = rw (laid laid2) at (c .puts .ensures)
 
-  after-lengths : Stands (headBits (headOf (plan laid2)) + length (plan laid2 .night .lengths) * w) (card laid2) (c .puts .last .0) (c .puts .result)
-  after-lengths = stands-next _ (after-head at-head) lengths (run-size w (plan laid2 .night .lengths)) (c .puts .kept .0)
+  after-lengths : Stands (headBits (headOf (plan laid2)) + length (plan laid2 .night .lengths) * w laid2) (card laid2) (c .puts .last .0) (c .puts .result)
+  after-lengths = stands-next _ (after-head at-head) lengths (run-size (w laid2) (plan laid2 .night .lengths)) (c .puts .kept .0)
 
 -- the inbound numbers
 module _ (c : tie.After-puts2) where
@@ -68,14 +70,14 @@ module _ (c : tie.After-puts2) where
   abbrev laid3 : tie.After-layout-of
   laid3 = laid2 (c .before .before .before .before)
 
-  inbound : Draws 31 (run w (plan laid3 .night .inbound)) (at-lengths .puts .last .0) (at-lengths .puts .result) (c .puts2 .last .0) (c .puts2 .result)
+  inbound : Draws 31 (run (w laid3) (plan laid3 .night .inbound)) (at-lengths .puts .last .0) (at-lengths .puts .result) (c .puts2 .last .0) (c .puts2 .result)
   inbound = rw (laid laid3) at (c .puts2 .ensures)
 
-  after-inbound : Stands (headBits (headOf (plan laid3)) + length (plan laid3 .night .lengths) * w + length (plan laid3 .night .inbound) * w)
+  after-inbound : Stands (headBits (headOf (plan laid3)) + length (plan laid3 .night .lengths) * w laid3 + length (plan laid3 .night .inbound) * w laid3)
       (card laid3)
       (c .puts2 .last .0)
       (c .puts2 .result)
-  after-inbound = stands-next _ (after-lengths at-lengths) inbound (run-size w (plan laid3 .night .inbound)) (c .puts2 .kept .0)
+  after-inbound = stands-next _ (after-lengths at-lengths) inbound (run-size (w laid3) (plan laid3 .night .inbound)) (c .puts2 .kept .0)
 
 -- the codes
 module _ (c : tie.After-puts3) where
@@ -85,7 +87,9 @@ module _ (c : tie.After-puts3) where
   abbrev p : Plan
   p = plan (laid3 (c .before .before .before .before))
 
-  after-codes : Stands (headBits (headOf p) + length (p .night .lengths) * w + length (p .night .inbound) * w + length (p .codes) * p .steps)
+  after-codes : Stands
+      (headBits (headOf p) + length (p .night .lengths) * w (laid3 at-inbound) + length (p .night .inbound) * w (laid3 at-inbound) +
+      length (p .codes) * p .steps)
       (card (laid3 at-inbound))
       (c .puts3 .last .0)
       (c .puts3 .result)
@@ -100,13 +104,13 @@ puts-requires : tie.Need-puts-requires
 puts-requires c κs =
     let at = c .before .before .before in
     rw (laid (laid1 at))
-    (layout-narrow 1 .number, stands-ready (after-head at) (at .draw-head .ensures .few) (omega (arith, drawable-bits (start (laid1 at) .pre))))
+    (layout-narrow _ .number, stands-ready (after-head at) (at .draw-head .ensures .few) (omega (arith, drawable-bits (start (laid1 at) .pre))))
 
 puts-requires-2 : tie.Need-puts-requires-2
 puts-requires-2 c κs =
     let at = c .before .before .before in
     rw (laid (laid2 at))
-    (layout-narrow 1 .number, stands-ready (after-lengths at) (at .puts .ensures .few) (omega (arith, drawable-bits (start (laid2 at) .pre))))
+    (layout-narrow _ .number, stands-ready (after-lengths at) (at .puts .ensures .few) (omega (arith, drawable-bits (start (laid2 at) .pre))))
 
 puts-requires-3 : tie.Need-puts-requires-3
 puts-requires-3 c κs =

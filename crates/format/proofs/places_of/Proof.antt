@@ -7,13 +7,13 @@ use Rattle.format.proofs.places_of.Statement.{statement}
 use Rattle.format.proofs.places_of.Tie as tie
 
 -- the bits of the lengths, the inbound numbers and the codes
-lengths : (c : tie.After-head-bits) → c .before .before .args .head .trains * c .before .layout-of .result .number ≤ 1024
+lengths : (c : tie.After-head-bits) → c .before .before .args .head .trains * c .before .layout-of .result .number ≤ 4096
 lengths c = mul-le-mul (c .before .before .pre .trains) (c .before .layout-of .ensures .narrow .number)
 
-inbound : (c : tie.After-head-bits) → c .before .before .args .head .cars * c .before .layout-of .result .number ≤ 8192
+inbound : (c : tie.After-head-bits) → c .before .before .args .head .cars * c .before .layout-of .result .number ≤ 65536
 inbound c = mul-le-mul (c .before .before .pre .cars) (c .before .layout-of .ensures .narrow .number)
 
-codes : (c : tie.After-head-bits) → c .before .before .args .head .cars * c .before .before .args .head .steps ≤ 4096
+codes : (c : tie.After-head-bits) → c .before .before .args .head .cars * c .before .before .args .head .steps ≤ 65536
 codes c = mul-le-mul (c .before .before .pre .cars) (c .before .before .pre .steps)
 
 mul-inbound : tie.Need-mul-inbound

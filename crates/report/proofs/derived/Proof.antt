@@ -1,5 +1,4 @@
 -- The proof of `derived`: what derive refuses is told, and the plan that it derives is drawn.
-use mathlib.Core.Bool.{false}
 use denote.Ref.{now}
 use lib.ListN.{length}
 use borrow.Author.Needs.{needs}
@@ -15,7 +14,7 @@ returns c =
     let at-then = c .before .before .before .before in
     let at-derive = at-then .before .before .before in
     let args = at-derive .before .before .before .before .before .args in
-    let n = nightOf (now (args .lengths)) (now (args .inbound)) false (args .tracks) (args .room) in
+    let n = nightOf (now (args .lengths)) (now (args .inbound)) (args .closed) (args .tracks) (args .room) in
     adds-same (derive-refused n (at-derive .derive .ensures) (cardIn (length (now (args .out)))) (at-then .if1 .taken)) (c .before .before .refusal .ensures)
 
 part-write-end : tie.Need-part-write-end
@@ -23,7 +22,7 @@ part-write-end c =
     let at-else = c .before in
     let at-derive = at-else .before .before .before in
     let args = at-derive .before .before .before .before .before .args in
-    let n = nightOf (now (args .lengths)) (now (args .inbound)) false (args .tracks) (args .room) in
+    let n = nightOf (now (args .lengths)) (now (args .inbound)) (args .closed) (args .tracks) (args .room) in
     derived-within n (at-derive .derive .ensures) (at-else .if1 .left)
 
 returns-2 : tie.Need-returns-2
@@ -33,7 +32,7 @@ returns-2 c =
     let at-else = at-write .before .before .before .before in
     let at-derive = at-else .before .before .before in
     let args = at-derive .before .before .before .before .before .args in
-    let n = nightOf (now (args .lengths)) (now (args .inbound)) false (args .tracks) (args .room) in
+    let n = nightOf (now (args .lengths)) (now (args .inbound)) (args .closed) (args .tracks) (args .room) in
     drawn-refused n (at-derive .derive .ensures) (at-else .if1 .left) (at-write .write .ensures) (at-then .if2 .taken) (c .before .before .refusal2 .ensures)
 
 returns-3 : tie.Need-returns-3
@@ -42,7 +41,7 @@ returns-3 c =
     let at-else = at-write .before .before .before .before in
     let at-derive = at-else .before .before .before in
     let args = at-derive .before .before .before .before .before .args in
-    let n = nightOf (now (args .lengths)) (now (args .inbound)) false (args .tracks) (args .room) in
+    let n = nightOf (now (args .lengths)) (now (args .inbound)) (args .closed) (args .tracks) (args .room) in
     drawn-done n (at-derive .derive .ensures) (at-else .if1 .left) (at-write .write .ensures) (c .if2 .left)
 
 pub derived-spec : {M : Type 1} → statement M

@@ -1,5 +1,4 @@
 -- The proof of `plan`: what check refuses is told, and what it accepts is put out.
-use mathlib.Core.Bool.{false}
 use native.Mathlib.Omega.{arith}
 use denote.Ref.{now}
 use borrow.Author.Needs.{needs}
@@ -14,7 +13,7 @@ returns c =
     let at-then = c .before .before .before .before in
     let at-check = at-then .before .before in
     let args = at-check .before .before .before .before .before .args in
-    let p = planGiven (now (args .lengths)) (now (args .inbound)) (now (args .codes)) false (args .counts) in
+    let p = planGiven (now (args .lengths)) (now (args .inbound)) (now (args .codes)) (args .closed) (args .counts) in
     adds-same (plan-refused p (at-check .check .ensures) (at-then .if1 .taken)) (c .before .before .refusal .ensures)
 
 trains-requires : tie.Need-trains-requires
@@ -23,7 +22,7 @@ trains-requires c κs =
     let at-else = at-counts .before .before in
     let at-check = at-else .before .before in
     let args = at-check .before .before .before .before .before .args in
-    let p = planGiven (now (args .lengths)) (now (args .inbound)) (now (args .codes)) false (args .counts) in
+    let p = planGiven (now (args .lengths)) (now (args .inbound)) (now (args .codes)) (args .closed) (args .counts) in
     let good = plan-good p (at-check .check .ensures) (at-else .if1 .left) in
     (at-counts .counts .ensures .within, omega (arith, good .listed .adds, good .cars))
 
@@ -34,7 +33,7 @@ returns-2 c =
     let at-else = at-counts .before .before in
     let at-check = at-else .before .before in
     let args = at-check .before .before .before .before .before .args in
-    let p = planGiven (now (args .lengths)) (now (args .inbound)) (now (args .codes)) false (args .counts) in
+    let p = planGiven (now (args .lengths)) (now (args .inbound)) (now (args .codes)) (args .closed) (args .counts) in
     adds-same (plan-done p (at-check .check .ensures) (at-else .if1 .left)) (adds-then (at-counts .counts .ensures) (at-trains .trains .ensures))
 
 pub plan-spec : {M : Type 1} → statement M

@@ -30,7 +30,7 @@ part-order-end c =
 
 returns-2 : tie.Need-returns-2
 returns-2 c =
-    let at-anew = c .before .before .before .before in
+    let at-anew = c .before .before .before .before .before in
     let at-else = at-anew .before .before .before .before .before in
     let at-read = at-else .before .before .before .before .before in
     let args = at-read .before .before .before .before .before .before .args in
@@ -45,7 +45,7 @@ part-plan-end c =
 
 returns-3 : tie.Need-returns-3
 returns-3 c =
-    let at-kept = c .before .before .before .before .before .before in
+    let at-kept = c .before .before .before .before .before .before .before in
     let at-else = at-kept .before .before .before .before .before in
     let at-read = at-else .before .before .before .before .before in
     let args = at-read .before .before .before .before .before .before .args in
