@@ -28,16 +28,17 @@
  *                                                                B: where one met before is first listed, or 0
  *    4   a list whose length isn't its count, or a buffer to  A: 1 lengths, 2 inbound, 3 codes, 4 tracks, 5 places,
  *        be written too short                                    6 card
- *    5   fewest steps above the limit                         A: fewest steps (may exceed 8)
+ *    5   fewest steps above the limit                         A: fewest steps (may exceed 16)
  *    6   a track overfilled                                   A: first such step, B: its cars
  *    7   a code not below 2^h                                 A: first such car
  *    8   a car pulled early                                   A: lowest car of the first such step, B: that step
  *    9   trains out of order                                  A: lowest j+1 whose pair breaks the rule
  *   10   card too short                                       A: bytes needed, as far as known
- *   11   card edition not 1                                   A: edition
+ *   11   card edition not 1 or 2                              A: edition
  *   12   non-zero padding, or bytes after the end             A: the card's right length
  *   13   a timing not allowed                                 A: 1 pull, 2 push
  *   14   a zero code in a closed night                        A: first such car
+ *   17   wrong edition for this plan
  * [end of table]
  *
  * Within 1, 4 and 13 the lowest A comes first; within 2 a length of 0 comes before the sum.
@@ -54,13 +55,22 @@ extern "C" {
 
 /* The ranges of the counts, and the length of the longest card. Steps and step limits are 0 to ALTAIRPEG_STEPS, passes
  * to be priced 0 to ALTAIRPEG_PASSES, all others from 1 on. */
-#define ALTAIRPEG_CARS 512
-#define ALTAIRPEG_TRAINS 64
-#define ALTAIRPEG_TRACKS 8
-#define ALTAIRPEG_ROOM 512
-#define ALTAIRPEG_STEPS 8
-#define ALTAIRPEG_PASSES 4608
-#define ALTAIRPEG_CARD_BYTES 1237
+#define ALTAIRPEG_CARS 4096
+#define ALTAIRPEG_TRAINS 256
+#define ALTAIRPEG_TRACKS 16
+#define ALTAIRPEG_ROOM 4096
+#define ALTAIRPEG_STEPS 16
+#define ALTAIRPEG_PASSES 69632
+#define ALTAIRPEG_CARD_BYTES 15271
+
+/* The ranges that cards of edition 1 and the call for the fewest passes keep, and the length of the longest card of
+ * edition 1. */
+#define ALTAIRPEG_FIRST_CARS 512
+#define ALTAIRPEG_FIRST_TRAINS 64
+#define ALTAIRPEG_FIRST_TRACKS 8
+#define ALTAIRPEG_FIRST_ROOM 512
+#define ALTAIRPEG_FIRST_STEPS 8
+#define ALTAIRPEG_FIRST_CARD_BYTES 1237
 
 /* The numbers of the table above [numbers, made from words/refusals.tsv by words/make.py]. */
 enum altairpeg_number {
@@ -78,7 +88,8 @@ enum altairpeg_number {
     ALTAIRPEG_CARD_EDITION = 11,
     ALTAIRPEG_CARD_END_WRONG = 12,
     ALTAIRPEG_TIMING_NOT_ALLOWED = 13,
-    ALTAIRPEG_ZERO_CODE = 14
+    ALTAIRPEG_ZERO_CODE = 14,
+    ALTAIRPEG_WRONG_EDITION = 17
 };
 /* [end of numbers] */
 
@@ -146,6 +157,7 @@ altairpeg_answer altairpeg_derive(
 
 /* Finds, for a night and a given number of steps, counts.steps, the codes that build the trains, in a closed night
  * without code 0, with the fewest passes; of those with as few, the list that is smallest at the first differing car.
+ * This call keeps the first ranges: up to ALTAIRPEG_FIRST_CARS cars, and so on.
  * Tests: 1 (cars, trains, tracks, room, steps), 2, 3, 4 (codes), 5, 6.
  * Writes: the code of each car to the first n items of codes.
  * Answers: A the steps, as given, B the passes of the whole plan.
@@ -183,20 +195,21 @@ altairpeg_answer altairpeg_replay(
     uint16_t *on, size_t on_len,
     uint16_t *at, size_t at_len);
 
-/* Reads a night card. It accepts plans that check would refuse.
- * Tests: an empty card is 10 (A 1); 11; under 5 bytes is 10 (A 5); 1 (cars, trains, tracks, room, steps); shorter than
- * the whole is 10; 4 (lengths, inbound, codes); 2; 3; 12.
+/* Reads a night card of edition 1 or 2. It accepts plans that check would refuse.
+ * Tests: an empty card is 10 (A 1); 11; under 5 bytes of edition 1, or 7 of edition 2, is 10 (A 5 or 7); 1 (cars,
+ * trains, tracks, room, steps), by the ranges of the edition; shorter than the whole is 10; 4 (lengths, inbound, codes);
+ * 2; 3; 12; 17.
  * Writes: the first m items of lengths, the first n of inbound and of codes.
- * Answers: the card's mark, steps, tracks, room, cars and trains; A and B are 0. The night of a card of edition 1, the
- * only one yet, is open. */
+ * Answers: the card's mark, steps, tracks, room, cars and trains; A and B are 0. The night of a card of edition 1 is
+ * open. 17 says that the plan of a card of edition 2 belongs on a card of edition 1. */
 altairpeg_card_answer altairpeg_read(
     const uint8_t *card, size_t card_len,
     uint16_t *lengths, size_t lengths_len,
     uint16_t *inbound, size_t inbound_len,
     uint16_t *codes, size_t codes_len);
 
-/* Writes the night card of a plan of an open night. It takes no mark, since a closed night goes on no card yet: written
- * here, it would be read as open.
+/* Writes the night card of a plan: edition 1 where its night is open and all its counts lie in the first ranges, else
+ * edition 2. A plan has no other card.
  * Tests: 1 (cars, trains, tracks, room, steps), 2, 3, 4 (codes), 7, 4 (card).
  * Writes: the card's bytes to the front of card.
  * Answers: A the card's length in bytes, B 0. */
@@ -204,7 +217,7 @@ altairpeg_answer altairpeg_write(
     const uint16_t *lengths, size_t lengths_len,
     const uint16_t *inbound, size_t inbound_len,
     const uint16_t *codes, size_t codes_len,
-    altairpeg_counts counts,
+    size_t mark, altairpeg_counts counts,
     uint8_t *card, size_t card_len);
 
 /* Prices a night: steps times pull plus passes times push, exactly.
@@ -213,8 +226,8 @@ altairpeg_answer altairpeg_write(
  * Answers: the price; A and B are 0. */
 altairpeg_price_answer altairpeg_price(size_t steps, size_t passes, altairpeg_timings timings);
 
-/* The fewest tracks, 1 to 8, on which a car with this code is never pulled early. It refuses nothing. */
-size_t altairpeg_fewest_tracks(uint8_t code);
+/* The fewest tracks, 1 to 16, on which a car with this code is never pulled early. It refuses nothing. */
+size_t altairpeg_fewest_tracks(uint16_t code);
 
 #ifdef __cplusplus
 }

@@ -3,6 +3,7 @@
 use std::env;
 use std::fs;
 use std::path::{Path, PathBuf};
+use std::process::Command;
 
 /// The one name by which Rust, Python and the second program are given another archive.
 const NAMED: &str = "ALTAIRPEG_ARCHIVE";
@@ -46,7 +47,43 @@ fn hand_over(archive: &Path) -> Result<(), String> {
     let folder = PathBuf::from(env::var_os("OUT_DIR").ok_or("cargo gives no folder")?);
     fs::write(folder.join("libaltairpeg.a"), bytes)
         .map_err(|fault| format!("not copied ({fault})"))?;
+    try_out(&folder)?;
     println!("cargo:rustc-link-search=native={}", folder.display());
+    Ok(())
+}
+
+/// Runs `probe.rs` with the archive: the names of an earlier edition are those of this one, but its writer takes other
+/// arguments, and would write where it should not.
+fn try_out(folder: &Path) -> Result<(), String> {
+    println!("cargo:rerun-if-changed=probe.rs");
+    if env::var_os("HOST") != env::var_os("TARGET") {
+        return Ok(()); // what is built for another machine can't be run on this one
+    }
+    let probe = folder.join("probe");
+    build(&probe, folder)?;
+    let run = Command::new(&probe).status();
+    match run.map_err(|fault| format!("cannot be tried ({fault})"))? {
+        ended if ended.success() => Ok(()),
+        _ => Err("is of an earlier edition, whose calls take other arguments".to_string()),
+    }
+}
+
+/// Builds the probe with the archive in this folder.
+fn build(probe: &Path, folder: &Path) -> Result<(), String> {
+    let mut rustc = Command::new(env::var_os("RUSTC").ok_or("cargo names no rustc")?);
+    rustc.args(["--edition=2021", "--cap-lints=allow", "probe.rs", "-o"]);
+    rustc.arg(probe).arg("-L").arg(folder);
+    if let Ok(linker) = env::var("RUSTC_LINKER") {
+        rustc.arg(format!("-Clinker={linker}"));
+    }
+    let run = rustc
+        .output()
+        .map_err(|fault| format!("cannot be tried ({fault})"))?;
+    if !run.status.success() {
+        let said = String::from_utf8_lossy(&run.stderr);
+        let first = said.lines().next().unwrap_or("nothing");
+        return Err(format!("cannot be linked (rustc says: {first})"));
+    }
     Ok(())
 }
 

@@ -27,6 +27,10 @@ CARD = bytes.fromhex("12200C060203006030020280 40202D80")
 UNSORTED = bytes.fromhex("10200C0602030060300202804020")
 NO_ROOM = bytes.fromhex("12200806020300603002028040202D80")
 SHOWN = (ROOT / "python" / "tests" / "case_1_brief.txt").read_text()
+# The night closed, with room for four cars, on a card of edition 2; and that card with the mark of an open night.
+CLOSED = bytes.fromhex("28C400400300400C003003000400A0020021293A")
+CLOSED_SHOWN = (ROOT / "python" / "tests" / "closed_brief.txt").read_text()
+OPENED = bytes([CLOSED[0] & 0xF7]) + CLOSED[1:]
 
 STAND_IN = r"""#!/bin/sh
 # Stands for the prover; the command in RT_GATED waits until the test lets it go on.
@@ -140,6 +144,22 @@ class Shown(Checkout):
             self.assertEqual(self.plan(*words, data=CARD), (0, SHOWN, ""))
         self.assertEqual(self.plan(data=UNSORTED), (0, SHOWN, ""), "codes and steps of the card given do not count")
 
+    def test_a_closed_night(self):
+        new = self.scratch / "new.card"
+        self.assertEqual(self.plan("-o", new, data=CLOSED), (0, CLOSED_SHOWN, ""))
+        self.assertEqual(new.read_bytes(), CLOSED)
+
+    def test_the_longest_card(self):
+        """A card longer than a pipe's usual piece, of which every byte is read: 4,096 cars in order, which need no step."""
+        bits = f"{2:04b}{0:01b}{16:05b}{16:05b}{4096:013b}{4096:013b}{256:09b}" + f"{16:013b}" * 256
+        bits += "".join(f"{car:013b}" for car in range(1, 4097)) + "1" * 16 * 4096
+        card = int(bits.ljust(8 * 15271, "0"), 2).to_bytes(15271, "big")
+        status, out, err = self.plan(data=card)
+        self.assertEqual((status, err), (0, ""))
+        self.assertTrue(out.startswith("steps 0 tracks 16 room 4096 cars 4096 trains 256 passes 4096\ntrain 1: 1 2 3 "), out[:100])
+        for data, line in ((card[:-1], "refused 10 15271 0"), (card + b"\0", "refused 12 15271 0")):
+            self.assertEqual(self.plan(data=data)[2][: len(line)], line)
+
     def test_from_the_checkout_and_by_relative_names(self):
         self.assertEqual(self.plan("../" + self.card.name, program="./plan", cwd=self.here), (0, SHOWN, ""))
 
@@ -167,15 +187,16 @@ class Shown(Checkout):
         for data, line in (
             (CARD[:15], "refused 10 16 0: card too short (16 bytes needed, as far as known)\n"),
             (b"", "refused 10 1 0: card too short (1 bytes needed, as far as known)\n"),
-            (b"hello", "refused 11 6 0: card edition not 1 (edition 6)\n"),
-            (b"refused 5 3 0\n", "refused 11 7 0: card edition not 1 (edition 7)\n"),
+            (b"hello", "refused 11 6 0: card edition not 1 or 2 (edition 6)\n"),
+            (b"refused 5 3 0\n", "refused 11 7 0: card edition not 1 or 2 (edition 7)\n"),
+            (OPENED, "refused 17 0 0: wrong edition for this plan (the plan belongs on a card of edition 1)\n"),
             (CARD + bytes(100000), "refused 12 16 0: non-zero padding, or bytes after the end (right length 16)\n"),
             (NO_ROOM, "refused 6 0 3: a track overfilled (step 0, 3 cars)\n"),
         ):
             self.assertEqual(self.plan(data=data), (1, "", line))
 
     def test_an_input_without_end(self):
-        self.assertEqual(self.plan("/dev/zero"), (1, "", "refused 11 0 0: card edition not 1 (edition 0)\n"))
+        self.assertEqual(self.plan("/dev/zero"), (1, "", "refused 11 0 0: card edition not 1 or 2 (edition 0)\n"))
 
     def test_reader_that_leaves(self):
         run = subprocess.run(["bash", "-c", '"$1" "$2" | true', "bash", self.here / "plan", self.card], capture_output=True, env=self.environment)

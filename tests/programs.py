@@ -20,6 +20,31 @@ PROGRAMS = ("nightcard", "nightplan")
 CARD = bytes.fromhex("12200C06020300603002028040202D80")
 LINES = b"steps 2 tracks 2 room 3 cars 6 trains 1 passes 11\ntrain 1: 1 2 3 4 5 6\n"
 OUT = {"nightcard": LINES, "nightplan": CARD}
+# the same night closed, with room for 4: its card of edition 2, whose mark nightcard does not print and nightplan keeps
+CLOSED_CARD = bytes.fromhex("28C400400300400C003003000400A0020021293A")
+CLOSED_LINES = b"steps 3 tracks 2 room 4 cars 6 trains 1 passes 14\ntrain 1: 1 2 3 4 5 6\n"
+CLOSED_OUT = {"nightcard": CLOSED_LINES, "nightplan": CLOSED_CARD}
+# bytes of the longest card
+LONGEST = 15271
+
+
+def packed(*fields):
+    """The bytes of numbers, each given with its bits, one behind the other, filled up with zero bits."""
+    bits = "".join(f"{number:0{size}b}" for number, size in fields)
+    return int(bits.ljust(-(-len(bits) // 8) * 8, "0"), 2).to_bytes(-(-len(bits) // 8), "big")
+
+
+def largest(steps):
+    """The card of an open night of 4,096 cars in order, in 256 trains on 16 tracks, with so many steps that each pull every car."""
+    head = [(2, 4), (0, 1), (steps, 5), (16, 5), (4096, 13), (4096, 13), (256, 9)]
+    codes = [(2**steps - 1, steps)] * 4096 if steps else []
+    return packed(*head, *[(16, 13)] * 256, *((car, 13) for car in range(1, 4097)), *codes)
+
+
+def largest_lines():
+    """What nightcard puts out for it with sixteen steps."""
+    trains = [f"train {first // 16 + 1}: {' '.join(str(first + car) for car in range(1, 17))}\n" for first in range(0, 4096, 16)]
+    return ("steps 16 tracks 16 room 4096 cars 4096 trains 256 passes 69632\n" + "".join(trains)).encode()
 
 
 def run(program, **how):
@@ -59,9 +84,24 @@ class Reading(unittest.TestCase):
     def test_a_card(self):
         self.each([("case 1", CARD, None), ("nothing", b"", b"refused 10 1 0\n"), ("15 bytes", CARD[:15], b"refused 10 16 0\n")])
 
+    def test_a_card_of_edition_2(self):
+        wrong = bytes([CLOSED_CARD[0] & 0xF7]) + CLOSED_CARD[1:]
+        self.each([("its counts cut off", CLOSED_CARD[:6], b"refused 10 7 0\n"), ("marked as open", wrong, b"refused 17 0 0\n")])
+        for program in PROGRAMS:
+            self.assertEqual(run(program, input=CLOSED_CARD).stdout, CLOSED_OUT[program])
+
+    def test_the_longest_card(self):
+        card = largest(16)
+        parts = [card[i:i + 1000] for i in range(0, len(card), 1000)]
+        self.assertEqual(len(card), LONGEST)
+        for program, out in (("nightcard", largest_lines()), ("nightplan", largest(0))):
+            self.assertEqual(run(program, input=card).stdout, out)
+            self.assertEqual(pieces(program, parts, 0.01), (out, b""))
+        self.each([("a byte less", card[:-1], b"refused 10 15271 0\n"), ("a byte more", card + b"\0", b"refused 12 15271 0\n")])
+
     def test_long_input(self):
         """More than a buffer gets the answer of the whole input, also where it ends at the buffer's end."""
-        sizes = (4095, 4096, 4097, 5000, 100_000)
+        sizes = (4095, 4096, 4097, 5000, LONGEST - 1, LONGEST, LONGEST + 1, 16383, 16384, 16385, 100_000)
         self.each([(f"{n} bytes", CARD + bytes(n - len(CARD)), b"refused 12 16 0\n") for n in sizes])
         self.each([(f"{n} zeros", bytes(n), b"refused 11 0 0\n") for n in sizes])
 

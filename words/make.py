@@ -143,7 +143,8 @@ def rust_enum(rows, other):
     yield "#[derive(Clone, Copy, Debug, PartialEq, Eq, Hash)]"
     yield "pub enum Kind {"
     for row in refusals(rows):
-        yield f"    /// {row.number}: {row.words}. {row.meaning}."
+        told = " ".join(f"{part}." for part in (row.words, row.meaning) if part)
+        yield f"    /// {row.number}: {told}"
         yield f"    {row.camel()},"
     yield f"    /// Any other: {other.words}."
     yield f"    {other.camel()},"

@@ -37,7 +37,7 @@ from .errors import AltairpegError, FileError, InputError, LibraryError
 from .nights import Checked, Derived, Mark, Night, Numbers, Plan, Stage
 from .refusal import Refusal
 
-__version__ = "2.1.0"
+__version__ = "3.0.0"
 
 __all__ = [
     "Night", "Mark", "Plan", "Derived", "Checked", "Stage", "Numbers",

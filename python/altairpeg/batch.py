@@ -16,7 +16,7 @@ from typing import Any, Callable, Iterable, Iterator, NamedTuple
 from .calls import check, derive, write_card
 from .errors import AltairpegError, FileError, InputError
 from .files import read_plan
-from .library import library
+from .library import STEPS, library
 from .nights import Plan
 from .output import write_whole
 from .refusal import Refusal
@@ -63,7 +63,7 @@ def register(commands: Any) -> None:
     )
     parser.add_argument("folder", metavar="FOLDER", help="its cards are the files whose names end in .card")
     parser.add_argument("--check", action="store_true", help="check the plans as they are, in place of deriving them")
-    parser.add_argument("--limit", type=int, default=8, metavar="STEPS", help="the most steps that a derived plan may have, 0 to 8 (8)")
+    parser.add_argument("--limit", type=int, default=STEPS, metavar="STEPS", help="the most steps that a derived plan may have, 0 to 16 (16)")
     parser.add_argument("--jobs", type=_jobs, metavar="N", help="processes to use (one for each core)")
     parser.add_argument("-o", "--output", metavar="FOLDER", help="keep the derived cards here, under the same names")
     parser.set_defaults(run=run)

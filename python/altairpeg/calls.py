@@ -4,19 +4,24 @@ from __future__ import annotations
 
 import os
 from array import array
-from typing import Any, SupportsFloat, SupportsIndex
+from typing import Any, NamedTuple, SupportsFloat, SupportsIndex
 
 from . import lists
 from .errors import FileError, InputError, shown
-from .library import CARD_BYTES, CARS, OPEN, TRAINS, Counts, Timings, library
+from .library import CARD_BYTES, CARS, FIRST_CARS, FIRST_ROOM, FIRST_STEPS, FIRST_TRACKS, FIRST_TRAINS
+from .library import OPEN, STEPS, TRAINS, Answer, Counts, Timings, library
 from .nights import Checked, Derived, Mark, Night, Plan, Stage
 from .places import place
 from .refusal import Refusal
 
-_CODE_TOO_LARGE_FOR_ANY_STEPS = lists.LARGEST
+_COUNT_OUT_OF_RANGE, _CODE_TOO_LARGE = 1, 7
+# What a plan is refused for before its codes are looked at, and where one is too large.
+_UP_TO_CODES = (1, 2, 3, 4, _CODE_TOO_LARGE)
+# By the A of refusal 1: the most that fewest_passes takes.
+_FIRST = {1: FIRST_CARS, 2: FIRST_TRAINS, 3: FIRST_TRACKS, 4: FIRST_ROOM, 5: FIRST_STEPS}
 
 
-def derive(night: Night, limit: SupportsIndex = 8) -> Derived:
+def derive(night: Night, limit: SupportsIndex = STEPS) -> Derived:
     """Derives the plan of a night with the fewest steps, as `Derived`.
 
     Refuses 1, 2, 3, 5 or 6. 5 says that no plan that builds the trains keeps to the limit, with the
@@ -29,10 +34,14 @@ def fewest_passes(night: Night, steps: SupportsIndex) -> Derived:
     """Finds the plan of a night with the fewest hump passes for just so many steps, as `Derived`.
 
     Of the plans with as few passes it is the one whose codes are smallest at the first differing car. Refuses 1, 2, 3, 5
-    or 6. 5 says that no codes of these steps build the trains, with the destinations closed until the first pull where
-    the night is closed, and `a` is the fewest steps of which some do; 6 speaks of the found codes alone.
+    or 6. 1 keeps document 01's limits: 512 cars, 64 trains, 8 tracks, room for 512 and 8 steps. 5 says that no codes of
+    these steps build the trains, with the destinations closed until the first pull where the night is closed, and `a` is
+    the fewest steps of which some do; 6 speaks of the found codes alone.
     """
-    return _derived("altairpeg_fewest_passes", night, "steps", steps)
+    try:
+        return _derived("altairpeg_fewest_passes", night, "steps", steps)
+    except Refusal as refusal:
+        raise _with_first_limit(refusal) from None
 
 
 def check(plan: Plan) -> Checked:
@@ -40,9 +49,7 @@ def check(plan: Plan) -> Checked:
 
     Refuses 1, 2, 3, 4, 7, 14 (a zero code in a closed night), 8, 6 or 9.
     """
-    answer = library().altairpeg_check(*_plan(plan))
-    if answer.number:
-        raise _plan_refusal(answer, plan)
+    answer = _told("altairpeg_check", plan, _plan(plan))
     return Checked(answer.a, answer.b)
 
 
@@ -52,18 +59,16 @@ def replay(plan: Plan, stage: SupportsIndex) -> Stage:
     Refuses as `check` does, but not 9, and a stage above the steps with 1.
     """
     taken = _plan(plan)
-    _, _, _, cars, *_ = taken
+    _, _, _, cars, *_ = taken.arguments
     tracks, places = lists.zeros(cars), lists.zeros(cars)
-    answer = library().altairpeg_replay(*taken, lists.count("stage", stage), tracks, cars, places, cars)
-    if answer.number:
-        raise _plan_refusal(answer, plan, stage=stage)
+    answer = _told("altairpeg_replay", plan, taken, lists.count("stage", stage), tracks, cars, places, cars, stage=stage)
     return Stage(answer.a, tracks.tolist(), places.tolist())
 
 
 def read_card(card: bytes | bytearray | memoryview) -> Plan:
-    """Reads a night card from bytes, as `Plan`; edition 1 means an open night.
+    """Reads a night card of edition 1, which means an open night, or 2 from bytes, as `Plan`.
 
-    Refuses 10, 11, 1, 2, 3 or 12. It accepts plans that `check` would refuse.
+    Refuses 10, 11, 1, 2, 3, 12 or 17. It accepts plans that `check` would refuse.
     """
     data = lists.card(card)
     lengths, inbound, codes = lists.zeros(TRAINS), lists.zeros(CARS), lists.zeros(CARS)
@@ -92,23 +97,13 @@ def card_bytes(path: str | os.PathLike[str]) -> bytes:
 
 
 def write_card(plan: Plan) -> bytes:
-    """Writes the night card of a plan of an open night, as `bytes`. Refuses 1, 2, 3, 4 or 7.
+    """Writes the night card of a plan, as `bytes`. Refuses 1, 2, 3, 4 or 7.
 
-    A closed night raises `InputError` before any refusal: document 01 has no number for it.
+    It is of edition 1 where the night is open and every count keeps document 01's limits, else of edition 2.
     """
-    *taken, _, counts = _plan(plan)
-    needs_open(plan.night)  # what is no list, number or mark at all has been told by now
     card = array("B", bytes(CARD_BYTES))
-    answer = library().altairpeg_write(*taken, counts, card, CARD_BYTES)
-    if answer.number:
-        raise _plan_refusal(answer, plan)
+    answer = _told("altairpeg_write", plan, _plan(plan), card, CARD_BYTES)
     return card[: answer.a].tobytes()
-
-
-def needs_open(night: Night) -> None:
-    """Tells of a closed night where a card is to be written."""
-    if lists.mark(night.mark) != OPEN:
-        raise InputError("a closed night goes on no card yet: a card of edition 1 means an open one")
 
 
 def price(steps: SupportsIndex, passes: SupportsIndex, pull: SupportsFloat, push: SupportsFloat) -> float:
@@ -124,10 +119,10 @@ def price(steps: SupportsIndex, passes: SupportsIndex, pull: SupportsFloat, push
 
 
 def fewest_tracks(code: SupportsIndex) -> int:
-    """The fewest tracks on which a car with this code, 0 to 255, is never pulled early."""
+    """The fewest tracks on which a car with this code, 0 to 65535, is never pulled early."""
     number = lists.whole("code", code)
-    if not 0 <= number <= 255:
-        raise InputError(f"code is {shown(number)}, not 0 to 255")
+    if not 0 <= number <= lists.LARGEST:
+        raise InputError(f"code is {shown(number)}, not 0 to {lists.LARGEST}")
     return int(library().altairpeg_fewest_tracks(number))
 
 
@@ -158,14 +153,32 @@ def _night(night: Night) -> tuple[array[int], array[int], int, int, int]:
     )
 
 
-def _plan(plan: Plan) -> tuple[Any, ...]:
+class _Taken(NamedTuple):
+    """A plan as the library takes it, and the first car whose code goes over as a stand-in, 0 where none does."""
+
+    arguments: tuple[Any, ...]
+    too_wide: int
+
+
+def _plan(plan: Plan) -> _Taken:
     """A plan as the library takes it."""
     if not isinstance(plan, Plan):
         raise InputError(f"plan is {shown(plan)}, not a Plan")
     lengths, inbound, tracks, room, mark = _night(plan.night)
-    codes = lists.numbers("codes", plan.codes, negative=_CODE_TOO_LARGE_FOR_ANY_STEPS)
+    codes, too_wide = lists.codes(plan.codes)
     counts = Counts(tracks, room, lists.count("steps", plan.steps))
-    return lengths, len(lengths), inbound, len(inbound), codes, len(codes), mark, counts
+    return _Taken((lengths, len(lengths), inbound, len(inbound), codes, len(codes), mark, counts), too_wide)
+
+
+def _told(call: str, plan: Plan, taken: _Taken, *further: Any, **given: Any) -> Any:
+    """What a call answers for a plan; a refusal is raised."""
+    answer = getattr(library(), call)(*taken.arguments, *further)
+    if taken.too_wide and answer.number not in _UP_TO_CODES:
+        # With 16 steps the stand-in is a code like any other, and only here it is known that it stands for none.
+        answer = Answer(_CODE_TOO_LARGE, taken.too_wide, 0)
+    if answer.number:
+        raise _refusal(answer, steps=plan.steps, codes=plan.codes, **plan.night._asdict(), **given)
+    return answer
 
 
 def _refusal(answer: Any, **given: Any) -> Refusal:
@@ -173,6 +186,9 @@ def _refusal(answer: Any, **given: Any) -> Refusal:
     return Refusal(answer.number, answer.a, answer.b, place(answer.number, answer.a, answer.b, given))
 
 
-def _plan_refusal(answer: Any, plan: Plan, **given: Any) -> Refusal:
-    """The refusal of a plan."""
-    return _refusal(answer, steps=plan.steps, codes=plan.codes, **plan.night._asdict(), **given)
+def _with_first_limit(refusal: Refusal) -> Refusal:
+    """A refusal of fewest_passes; where a count is out of its range, it tells document 01's limit, since other calls take more."""
+    if refusal.number != _COUNT_OUT_OF_RANGE:
+        return refusal
+    limit = f"the fewest passes are found for at most {_FIRST[refusal.a]}"
+    return Refusal(refusal.number, refusal.a, refusal.b, "; ".join(filter(None, [refusal.place, limit])))

@@ -5,7 +5,7 @@ from __future__ import annotations
 from typing import NamedTuple, SupportsFloat
 
 from .calls import check, fewest_passes, price
-from .library import STEPS
+from .library import FIRST_STEPS
 from .nights import Night
 from .refusal import Refusal
 
@@ -26,7 +26,7 @@ class Choice(NamedTuple):
 
 
 class Tradeoff(NamedTuple):
-    """A night, its timings, and a choice for each number of steps, from the fewest that will do to the most there may be."""
+    """A night, its timings, and a choice for each number of steps, from the fewest that will do to the most that fewest_passes takes."""
 
     night: Night
     pull: SupportsFloat
@@ -63,10 +63,13 @@ def _words(told: Cost | Refusal, widths: list[int]) -> str:
 
 
 def weigh(night: Night, pull: SupportsFloat, push: SupportsFloat) -> Tradeoff:
-    """The tradeoff of a night. Refuses 1, 2, 3, 5 where the most steps won't do, or 13; a choice refused with 6 is a part of it."""
+    """The tradeoff of a night within document 01's limits.
+
+    Refuses 1, 2, 3, 5 where eight steps won't do, or 13; a choice refused with 6 is a part of it.
+    """
     fewest = _fewest_steps(night)
     price(fewest, 0, pull, push)  # a timing that isn't allowed is told even where no plan has room
-    return Tradeoff(night, pull, push, [Choice(steps, _told(night, steps, pull, push)) for steps in range(fewest, STEPS + 1)])
+    return Tradeoff(night, pull, push, [Choice(steps, _told(night, steps, pull, push)) for steps in range(fewest, FIRST_STEPS + 1)])
 
 
 def _fewest_steps(night: Night) -> int:
@@ -74,7 +77,7 @@ def _fewest_steps(night: Night) -> int:
     try:
         return fewest_passes(night, 0).steps
     except Refusal as refusal:
-        if refusal.name != "LIMIT_TOO_LOW" or refusal.a > STEPS:
+        if refusal.name != "LIMIT_TOO_LOW" or refusal.a > FIRST_STEPS:
             raise
         return refusal.a
 

@@ -13,9 +13,10 @@ import traceback
 from typing import Any, Sequence
 
 from . import __version__, batch, make, show, tradeoff
-from .calls import check, derive, needs_open, price
+from .calls import check, derive, price
 from .errors import AltairpegError, InputError
-from .files import CARD_HELP, JSON_HELP, headline, is_json, kept, read_night, read_plan
+from .files import CARD_HELP, JSON_HELP, headline, kept, read_night, read_plan
+from .library import STEPS
 from .nights import Plan
 from .output import write_whole
 from .refusal import Refusal
@@ -100,7 +101,7 @@ def _register_derive(commands: Any) -> None:
     words = "derive the night of a card or a JSON file anew, with the fewest steps"
     parser = commands.add_parser("derive", allow_abbrev=False, help=words, epilog=JSON_HELP)
     parser.add_argument("card", metavar="CARD", help=CARD_HELP)
-    parser.add_argument("--limit", type=int, default=8, metavar="STEPS", help="the most steps allowed, 0 to 8 (8)")
+    parser.add_argument("--limit", type=int, default=STEPS, metavar="STEPS", help="the most steps allowed, 0 to 16 (16)")
     kept_help = "keep the new plan here, as JSON where the name ends in .json, else as a card; - is standard output, for a card alone"
     parser.add_argument("-o", "--output", metavar="FILE", help=kept_help)
     parser.set_defaults(run=_derive)
@@ -108,10 +109,7 @@ def _register_derive(commands: Any) -> None:
 
 def _derive(given: argparse.Namespace) -> int:
     """Prints the derived plan, and keeps it where that is asked for."""
-    night = read_night(given.card)
-    if given.output is not None and not is_json(given.output):
-        needs_open(night)  # before it is derived: a night that goes on no card is no refusal
-    derived = derive(night, given.limit)
+    derived = derive(read_night(given.card), given.limit)
     if given.output is not None:
         write_whole(given.output, kept(given.output, derived.plan))
     if given.output != "-":

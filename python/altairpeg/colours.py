@@ -2,6 +2,9 @@
 
 from __future__ import annotations
 
+from functools import cache
+from itertools import permutations
+
 # Okabe and Ito's colours, chosen so that colour-blind people tell them apart too, with white in place of black.
 COLOURS = ("#56b4e9", "#e69f00", "#009e73", "#f0e442", "#0072b2", "#d55e00", "#cc79a7", "#ffffff")
 INK, PALE, PULLED, WRONG = "#1a1a1a", "#efefef", "#fff2cc", "#b00020"
@@ -25,12 +28,19 @@ def fill(train: int) -> str:
     return COLOURS[(train - 1) % len(COLOURS)]
 
 
-def band(train: int) -> str:
-    """The colour of the band at the foot of a train's boxes, from train 9 on: with it each of 64 trains has a look of its own."""
+@cache
+def bands(train: int) -> tuple[str, ...]:
+    """The colours of the band at the foot of a train's boxes: none up to train 8, one up to 64, and then two side by side.
+
+    With them each of 256 trains has a look of its own.
+    """
     turn, at = divmod(train - 1, len(COLOURS))
-    return COLOURS[(at + turn) % len(COLOURS)] if turn else ""
+    others = COLOURS[at + 1 :] + COLOURS[:at]
+    looks = [(), *((colour,) for colour in others), *permutations(others, 2)]
+    return looks[turn]
 
 
+@cache
 def number_colour(train: int) -> str:
     """The colour of the numbers in a train's boxes: whichever of dark and white is easier to read there."""
     return max((INK, "#ffffff"), key=lambda colour: contrast(colour, fill(train)))

@@ -1,7 +1,7 @@
 """What the command line reads and keeps: cards and JSON files.
 
-A card is a file or - for standard input, and means an open night. A JSON file, whose name ends in .json, has one object with
-the names of a night, its mark among them, and with steps and codes where it has a plan.
+A card is a file or - for standard input. A JSON file, whose name ends in .json, has one object with the names of a night, its
+mark among them, and with steps and codes where it has a plan.
 """
 
 from __future__ import annotations
@@ -22,12 +22,12 @@ from .refusal import Refusal
 
 CARD_HELP = "a file with the card's bytes, or - for standard input; or a JSON file, whose name ends in .json"
 JSON_HELP = (
-    "A card means an open night. A JSON file has one object with the names lengths, inbound, tracks, room and mark, which is open "
-    "or closed, and with steps and codes where it has a plan."
+    "A JSON file has one object with the names lengths, inbound, tracks, room and mark, which is open or closed, and with steps and "
+    "codes where it has a plan."
 )
 NIGHT = Night._fields
 CODES = ("steps", "codes")
-# What nightplan writes in place of a card; no card of edition 1 begins with its first letter.
+# What nightplan writes in place of a card; its first letter would begin one of edition 7.
 _REFUSED = re.compile(rb"refused ([0-9]{1,20}) ([0-9]{1,20}) ([0-9]{1,20})\n?")
 
 
@@ -58,7 +58,7 @@ def _card_plan(name: str) -> Plan:
     if line:
         number, a, b = map(int, line.groups())
         raise Refusal(number, a, b)
-    if data.lstrip().startswith(b"{"):  # which would be a card of edition 7
+    if data.lstrip(b"\t\r\n").startswith(b"{"):  # a card of edition 0 or 7; but a blank may begin one of edition 2
         raise InputError(f"{name} looks like JSON, not like a card: the name of a JSON file ends in .json")
     return read_card(data)
 
@@ -132,6 +132,6 @@ def headline(plan: Plan) -> str:
 
 
 def night_line(night: Night) -> str:
-    """The headline of a night alone; a closed one, of which nightcard gets no card, says so."""
+    """The headline of a night alone; a closed one says so, which nightcard does not."""
     closed = " mark closed" if night.mark == Mark.CLOSED else ""
     return f"tracks {night.tracks} room {night.room} cars {len(night.inbound)} trains {len(night.lengths)}{closed}"

@@ -4,7 +4,7 @@ from __future__ import annotations
 
 import ctypes
 from array import array
-from ctypes import c_double, c_size_t, c_uint8, c_void_p
+from ctypes import c_double, c_size_t, c_uint16, c_void_p
 from functools import lru_cache
 from pathlib import Path
 from typing import Any
@@ -12,10 +12,12 @@ from typing import Any
 from . import building
 from .errors import LibraryError
 
-CARS = 512
-TRAINS = 64
-STEPS = 8
-CARD_BYTES = 1237
+CARS = 4096
+TRAINS = 256
+STEPS = 16
+CARD_BYTES = 15271
+# Document 01's own limits, which the fewest passes keep.
+FIRST_CARS, FIRST_TRAINS, FIRST_TRACKS, FIRST_ROOM, FIRST_STEPS = 512, 64, 8, 512, 8
 # The numbers of the marks; every other number is taken for closed, too.
 OPEN, CLOSED = 0, 1
 
@@ -69,11 +71,11 @@ CALLS: dict[str, tuple[list[Any], Any]] = {
     "altairpeg_check": (PLAN, Answer),
     "altairpeg_replay": (PLAN + [c_size_t] + LIST + LIST, Answer),
     "altairpeg_read": (LIST * 4, CardAnswer),
-    "altairpeg_write": (NIGHT + LIST + [Counts] + LIST, Answer),
+    "altairpeg_write": (PLAN + LIST, Answer),
     "altairpeg_price": ([c_size_t, c_size_t, Timings], PriceAnswer),
-    "altairpeg_fewest_tracks": ([c_uint8], c_size_t),
+    "altairpeg_fewest_tracks": ([c_uint16], c_size_t),
 }
-# The call that came last, with 2.1.0: its name tells a library of this version from every earlier one.
+# The call that came last, with 2.1.0: a library that lacks it alone is of an earlier version.
 NEWEST = "altairpeg_fewest_passes"
 
 
@@ -88,20 +90,32 @@ def opened(path: Path, told: Path) -> ctypes.CDLL:
         call = getattr(library, name)
         call.argtypes = taken
         call.restype = given
+    if not _prices_every_step(library):
+        raise _earlier(told)
     return library
 
 
 def _has_every_call(library: ctypes.CDLL, told: Path) -> None:
-    """Tells of a library that is too old, or none of Altairpeg's, before any of it is called.
-
-    The calls of version 1 have the names of today's and take no mark: they would answer for another night, or write where
-    they should not.
-    """
+    """Tells of a library that is too old, or none of Altairpeg's, before any of it is called."""
     missing = [name for name in CALLS if not hasattr(library, name)]
     if missing == [NEWEST]:
-        raise LibraryError(f"{told} is of an Altairpeg before 2.1.0, which has no {NEWEST}: run `rt staticlib altairpeg` anew")
+        raise _earlier(told)
     if missing:
         raise LibraryError(f"{told} is broken or not of Altairpeg's library: it has no {missing[0]}")
+
+
+def _prices_every_step(library: ctypes.CDLL) -> bool:
+    """Whether a library prices as many steps as there are now, which none before 3.0.0 does.
+
+    No name tells it from one of version 2, whose writer takes no mark and would write where it should not. The price has
+    taken the same in every version.
+    """
+    return bool(library.altairpeg_price(STEPS, 0, Timings(0, 0)).number == 0)
+
+
+def _earlier(told: Path) -> LibraryError:
+    """The error that tells of a library of an earlier version."""
+    return LibraryError(f"{told} is of an Altairpeg before 3.0.0, whose calls take other arguments: run `rt staticlib altairpeg` anew")
 
 
 def _of_archive(source: Path) -> ctypes.CDLL:

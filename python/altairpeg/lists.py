@@ -5,7 +5,8 @@ night. So a number that does not fit goes over as a stand-in that does, of which
 
 - an inbound number: a negative one as 0, a large one as 65535, neither of which is a car (refusal 3);
 - a length: a negative one as 0, a train without cars (2, that train); a large one as 65535, more than all cars (2, the sum);
-- a code: as 65535, which is not below 2^h for any h of 0 to 8 (7);
+- a code: as 65535, which is not below 2^h for any h of 0 to 15 (7); for h of 16 there is no such code, so the first car
+  with a stand-in is told as well;
 - a count, 64 bits wide: as the largest, which is above each range (1);
 - seconds: what a double does not hold exactly as not-a-number (13).
 
@@ -16,7 +17,7 @@ from __future__ import annotations
 
 import math
 from array import array
-from collections.abc import Mapping
+from collections.abc import Iterable, Mapping, Sequence
 from ctypes import c_double
 from itertools import islice
 from operator import index
@@ -67,14 +68,24 @@ def seconds(name: str, given: SupportsFloat | SupportsIndex) -> float:
     return held if held == given else math.nan
 
 
-def numbers(name: str, given: Numbers, negative: int = 0) -> array[int]:
-    """A list, or its stand-in, in which `negative` stands for every negative number."""
-    items = given if type(given) in (list, tuple) else _items(name, given)
+def numbers(name: str, given: Numbers) -> array[int]:
+    """A list, or its stand-in."""
+    items = _items(name, given)
     try:
         return array("H", items)
     except (TypeError, OverflowError):
-        # Only now item by item: the message names the place.
-        return array("H", [_fitting(f"{name}[{place}]", item, negative) for place, item in enumerate(items)])
+        return array("H", [min(max(number, 0), LARGEST) for number in _wholes(name, items)])
+
+
+def codes(given: Numbers) -> tuple[array[int], int]:
+    """A list of codes, or its stand-in, and the first car whose code has a stand-in there, 0 where none has."""
+    items = _items("codes", given)
+    try:
+        return array("H", items), 0
+    except (TypeError, OverflowError):
+        held = [number if 0 <= number <= LARGEST else None for number in _wholes("codes", items)]
+        first = held.index(None) + 1 if None in held else 0
+        return array("H", [LARGEST if number is None else number for number in held]), first
 
 
 def zeros(size: int) -> array[int]:
@@ -93,16 +104,15 @@ def card(given: bytes | bytearray | memoryview) -> array[int]:
     return array("B", view.tobytes())
 
 
-def _fitting(name: str, item: SupportsIndex, negative: int) -> int:
-    """An item, or its stand-in."""
-    number = whole(name, item)
-    if number < 0:
-        return negative
-    return min(number, LARGEST)
+def _wholes(name: str, items: Iterable[Any]) -> list[int]:
+    """Whole numbers of any size, item by item, so that a message names the place."""
+    return [whole(f"{name}[{place}]", item) for place, item in enumerate(items)]
 
 
-def _items(name: str, given: Any) -> list[Any] | bytes:
-    """The items of what is neither list nor tuple, as a list; those of a buffer of C's own type as they lie in memory."""
+def _items(name: str, given: Any) -> Sequence[Any] | bytes:
+    """The items of a list in whatever form; those of a buffer of C's own type as they lie in memory."""
+    if type(given) in (list, tuple):
+        return given  # type: ignore[no-any-return]
     try:
         return _buffered(given) if _is_buffer(given) else _listed(given)
     except (TypeError, ValueError, NotImplementedError):

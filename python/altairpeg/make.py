@@ -6,9 +6,10 @@ import argparse
 import sys
 from typing import Any
 
-from .calls import derive, needs_open, write_card
+from .calls import derive, write_card
 from .errors import InputError
 from .files import CODES, NIGHT, headline, is_json, night_of, plan_of, read_object
+from .library import STEPS
 from .nights import Mark, Plan
 from .output import write_whole
 
@@ -19,8 +20,7 @@ def register(commands: Any) -> None:
         "card",
         allow_abbrev=False,
         help="make a card from numbers or a JSON file",
-        description="Makes a night card. Without steps and codes it derives the plan with the fewest steps. The mark must be said; "
-        "a closed night goes on no card yet.",
+        description="Makes a night card. Without steps and codes it derives the plan with the fewest steps. The mark must be said.",
         epilog="Lists are numbers with commas or blanks between them. The JSON file has one object with the same names: "
         "lengths, inbound, tracks, room, mark, and steps and codes where they are given.",
     )
@@ -32,7 +32,7 @@ def register(commands: Any) -> None:
     parser.add_argument("--mark", choices=[mark.value for mark in Mark], help="whether the destination tracks are open from the start")
     parser.add_argument("--steps", type=int, metavar="H", help="the steps of a plan of your own")
     parser.add_argument("--codes", type=_numbers, nargs="+", metavar="CODE", help="its codes, in car order")
-    parser.add_argument("--limit", type=int, metavar="STEPS", help="the most steps that a derived plan may have, 0 to 8 (8)")
+    parser.add_argument("--limit", type=int, metavar="STEPS", help="the most steps that a derived plan may have, 0 to 16 (16)")
     parser.add_argument("-o", "--output", metavar="FILE", help="the card's file; standard output where it isn't given, or is -")
     parser.set_defaults(run=run)
 
@@ -68,11 +68,9 @@ def _named(given: argparse.Namespace) -> dict[str, Any]:
 
 def _plan(named: dict[str, Any], limit: int | None) -> Plan:
     """The plan that is given, or the derived one where no codes are given."""
-    night = night_of(named)
-    needs_open(night)
     given = plan_of(named)
     if given is None:
-        return derive(night, 8 if limit is None else limit).plan
+        return derive(night_of(named), STEPS if limit is None else limit).plan
     if limit is not None:
         raise InputError("a plan of your own has its steps, and no limit")
     return given

@@ -4,9 +4,9 @@ from __future__ import annotations
 
 from typing import Collection, NamedTuple, Sequence
 
-from .colours import INK, PALE, PULLED, WRONG, band, fill, number_colour
+from .colours import INK, PALE, PULLED, WRONG, bands, fill, number_colour
 from .files import headline
-from .page import LABEL, MARGIN, Page, counted, night_in_words
+from .page import LABEL, LETTER, MARGIN, Page, counted, night_in_words
 from .story import BARRED, FEW_TRAINS, Story, barrier, disorder, signed, trouble
 
 BAND = 4
@@ -15,23 +15,26 @@ LOWEST = 30
 # The free space below the boxes of a line: with names of tracks there, and without.
 NAMED, BARE = 22, 6
 
-# Up to so many cars the boxes are wide enough for a track's whole name below them.
-FEW_CARS = 60
+# Up to so many cars the boxes are wide enough for a track's whole name below them; and up to so many, narrow ones have room for a number.
+FEW_CARS, SHORT_NUMBERS = 60, 999
 
 
 class Scale(NamedTuple):
-    """The size of a box, of the number in it, how many boxes make a line, and whether tracks are named in full below them."""
+    """The size of a box, of the number in it, how many boxes make a line, whether tracks are named in full below them, and the width of a label."""
 
     width: int
     height: int
     font: int
     line: int
     in_full: bool
+    label: int
 
 
 def _scale(cars: int) -> Scale:
-    """Large boxes for few cars, small ones for many."""
-    return Scale(46, 26, 14, min(20, max(cars, 10)), True) if cars <= FEW_CARS else Scale(32, 20, 12, 34, False)
+    """Large boxes for few cars, small ones for many, and wider ones again for numbers of four digits."""
+    if cars <= FEW_CARS:
+        return Scale(46, 26, 14, min(20, max(cars, 10)), True, LABEL)
+    return Scale(32, 20, 12, 34, False, LABEL) if cars <= SHORT_NUMBERS else Scale(40, 20, 12, 34, False, LABEL + 24)
 
 
 class Sheet(Page):
@@ -40,7 +43,7 @@ class Sheet(Page):
     def __init__(self, story: Story) -> None:
         self.story = story
         self.scale = _scale(len(story.plan.night.inbound))
-        super().__init__(2 * MARGIN + LABEL + self.scale.line * self.scale.width)
+        super().__init__(2 * MARGIN + self.scale.label + self.scale.line * self.scale.width)
         lengths = story.plan.night.lengths
         self.train_of: dict[int, int] = dict(enumerate((train for train, length in enumerate(lengths, 1) for _ in range(length)), 1))
 
@@ -48,9 +51,11 @@ class Sheet(Page):
         """A car."""
         width, height = self.scale.width - 2, self.scale.height
         self.rect(x, y, width, height, f'fill="{fill(train)}" ' + (f'stroke="{frame}" stroke-width="3"' if frame else 'stroke="#777"'))
-        if band(train):
-            self.rect(x + 2, y + height - BAND - 1, width - 4, BAND - 1, f'fill="{band(train)}"')
-        foot = y + (height + self.scale.font * 0.7) / 2 - (1 if band(train) else 0)
+        colours = bands(train)
+        for at, colour in enumerate(colours):
+            part = (width - 4) // len(colours)
+            self.rect(x + 2 + at * part, y + height - BAND - 1, part, BAND - 1, f'fill="{colour}"')
+        foot = y + (height + self.scale.font * 0.7) / 2 - (1 if colours else 0)
         self.text(x + width // 2, round(foot), words, f'fill="{number_colour(train)}" text-anchor="middle" font-size="{self.scale.font}"')
 
 
@@ -107,7 +112,7 @@ def _label(sheet: Sheet, x: int, name: str, count: str) -> None:
 
 def _inbound(sheet: Sheet) -> None:
     """The first roll-in: the cars as they come, where each cut rolls, and what is wrong with that."""
-    cars, x = sheet.story.plan.night.inbound, MARGIN + LABEL
+    cars, x = sheet.story.plan.night.inbound, MARGIN + sheet.scale.label
     sheet.heading(f"First roll-in, {counted(len(cars), 'car')} over the hump")
     _label(sheet, MARGIN, "inbound", counted(len(cars), "car"))
     _cars(sheet, x, cars, NAMED, wrong=sheet.story.stopped())
@@ -118,7 +123,7 @@ def _inbound(sheet: Sheet) -> None:
 
 def _sorting_track(sheet: Sheet, stage: int, track: int, moved: Collection[int]) -> None:
     """A sorting track with its room and its cars."""
-    night, cars, x = sheet.story.plan.night, sheet.story.yards[stage].tracks[track], MARGIN + LABEL
+    night, cars, x = sheet.story.plan.night, sheet.story.yards[stage].tracks[track], MARGIN + sheet.scale.label
     sheet.rect(x - 1, sheet.y, min(night.room, sheet.scale.line) * sheet.scale.width, sheet.scale.height, f'fill="{PALE}"')
     _label(sheet, MARGIN, f"track {track}", f"{len(cars)} of {night.room}")
     _cars(sheet, x, cars, BARE, moved)
@@ -127,7 +132,7 @@ def _sorting_track(sheet: Sheet, stage: int, track: int, moved: Collection[int])
 
 def _pulled_track(sheet: Sheet, stage: int, moved: Collection[int]) -> None:
     """The track that the next step pulls: its cars, and below them where they roll, or what is wrong with them."""
-    story, x = sheet.story, MARGIN + LABEL
+    story, x = sheet.story, MARGIN + sheet.scale.label
     cars, words = story.pulled(stage), signed(trouble(story, stage))
     below = BARE if story.fails_at(stage) or not cars else NAMED
     depth = max(_depth(sheet, len(cars), below), LOWEST)
@@ -155,7 +160,7 @@ def _trains(sheet: Sheet, stage: int, moved: Collection[int]) -> None:
     """The destination tracks, side by side where several fit."""
     story, step = sheet.story, sheet.scale.width
     shown, lengths = _shown_trains(story, stage), story.plan.night.lengths
-    across = LABEL + (max(lengths) + 1) * step
+    across = sheet.scale.label + (max(lengths) + 1) * step
     beside = max(1, (sheet.width - 2 * MARGIN + step) // across)
     for first in range(0, len(shown), beside):
         row = shown[first : first + beside]
@@ -169,9 +174,9 @@ def _train(sheet: Sheet, x: int, stage: int, train: int, moved: Collection[int])
     story = sheet.story
     night, cars = story.plan.night, story.yards[stage].tracks[story.plan.night.tracks + train - 1]
     if story.bars(stage):
-        _barred(sheet, x + LABEL)
+        _barred(sheet, x + sheet.scale.label)
     _label(sheet, x, f"train {train}", f"{len(cars)} of {night.lengths[train - 1]}")
-    _cars(sheet, x + LABEL, cars, BARE, moved, story.out_of_order() if stage == story.plan.steps else ())
+    _cars(sheet, x + sheet.scale.label, cars, BARE, moved, story.out_of_order() if stage == story.plan.steps else ())
     return max(_depth(sheet, len(cars), BARE), LOWEST)
 
 
@@ -204,16 +209,24 @@ def _stage(sheet: Sheet, stage: int) -> None:
 
 def _colours(sheet: Sheet) -> None:
     """Each train with its colour and its cars."""
-    across, first = 156, 1
+    names = _train_names(sheet.story.plan.night.lengths)
+    across = sheet.scale.width + 16 + int(max(map(len, names)) * 11 * LETTER)
     beside = max(1, (sheet.width - 2 * MARGIN) // across)
-    lengths = sheet.story.plan.night.lengths
-    for at, length in enumerate(lengths):
+    for at, name in enumerate(names):
         x, y = MARGIN + at % beside * across, sheet.y + at // beside * (sheet.scale.height + 4)
         sheet.box(x, y, at + 1, "")
+        sheet.text(x + sheet.scale.width + 4, y + 14, name, 'font-size="11"')
+    sheet.y += -(-len(names) // beside) * (sheet.scale.height + 4)
+
+
+def _train_names(lengths: Sequence[int]) -> list[str]:
+    """Each train by its number and its cars."""
+    names, first = [], 1
+    for number, length in enumerate(lengths, 1):
         cars = f"car {first}" if length == 1 else f"cars {first}-{first + length - 1}"
-        sheet.text(x + sheet.scale.width + 4, y + 14, f"train {at + 1}: {cars}", 'font-size="11"')
+        names.append(f"train {number}: {cars}")
         first += length
-    sheet.y += -(-len(lengths) // beside) * (sheet.scale.height + 4)
+    return names
 
 
 def _legend(sheet: Sheet) -> None:

@@ -20,7 +20,7 @@ def register(commands: Any) -> None:
         help="weigh steps against hump passes: the price of each number of steps",
         description="For each number of steps, from the fewest that will do to 8, prints the fewest passes, the fullest pull and the price, "
         "and marks the cheapest. The steps and codes of the card do not count. Steps whose codes overfill a track are shown as refused; "
-        "the exit status is 1 where all are.",
+        "the exit status is 1 where all are. The fewest passes are found for up to 512 cars, 64 trains, 8 tracks and room for 512.",
         epilog=JSON_HELP,
     )
     parser.add_argument("card", metavar="CARD", help=CARD_HELP)

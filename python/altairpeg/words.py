@@ -20,6 +20,7 @@ NAMES: dict[int, str] = {
     12: "CARD_END_WRONG",
     13: "TIMING_NOT_ALLOWED",
     14: "ZERO_CODE",
+    17: "WRONG_EDITION",
 }
 
 WORDS: dict[int, str] = {
@@ -34,10 +35,11 @@ WORDS: dict[int, str] = {
     8: "a car pulled early",
     9: "trains out of order",
     10: "card too short",
-    11: "card edition not 1",
+    11: "card edition not 1 or 2",
     12: "non-zero padding, or bytes after the end",
     13: "a timing not allowed",
     14: "a zero code in a closed night",
+    17: "wrong edition for this plan",
 }
 
 # The words of the details by A and B, None for every other; {a} and {b} are the details themselves.
@@ -57,4 +59,5 @@ DETAILS: dict[int, list[tuple[int | None, int | None, str]]] = {
     12: [(None, None, "right length {a}")],
     13: [(1, None, "pull"), (2, None, "push"), (None, None, "A {a}, B {b}")],
     14: [(None, None, "car {a}")],
+    17: [(None, None, "the plan belongs on a card of edition 1")],
 }

@@ -1,14 +1,13 @@
 """What the tests of drawings share: plans to draw, the command that draws them, and what holds for every picture."""
 
 import re
-import tempfile
 import unittest
 from xml.etree import ElementTree
 
 from altairpeg import Night, Plan, derive, write_card
 from altairpeg.page import LETTER
 
-from support import CLOSED, CLOSED_CODES, CODES, DISORDERED, OPEN, altairpeg, as_json, n
+from support import CLOSED, CLOSED_CODES, CODES, DISORDERED, OPEN, altairpeg, n
 
 NAME = "{http://www.w3.org/2000/svg}"
 # Plans that check refuses: with 6, step 0, 3 cars; with 8, car 4, step 0; with 9, car 3; with 14, car 2.
@@ -24,7 +23,7 @@ NINE = Plan(Night([1] * 9, list(range(1, 10)), 3, 9, CLOSED), 3, [1, 2] + [4] * 
 def many(trains, length, tracks=4, mark=OPEN):
     """A derived plan of many cars, those of each train far apart in the inbound order."""
     cars = range(1, trains * length + 1)
-    return derive(Night([length] * trains, sorted(cars, key=lambda car: car * 37 % 101), tracks, 512, mark)).plan
+    return derive(Night([length] * trains, sorted(cars, key=lambda car: car * 37 % 101), tracks, len(cars), mark)).plan
 
 
 def zeroed(plan):
@@ -33,13 +32,8 @@ def zeroed(plan):
 
 
 def show(given, *words, columns=80, **options):
-    """Runs `show` on a card or a plan: a closed night comes from a JSON file, all else from standard input."""
+    """Runs `show` on a card, or on that of a plan."""
     options["set"] = {"COLUMNS": str(columns)}
-    if isinstance(given, Plan) and given.night.mark == CLOSED:
-        with tempfile.NamedTemporaryFile(suffix=".json") as file:
-            file.write(as_json(given))
-            file.flush()
-            return altairpeg("show", *words, file.name, **options)
     card = write_card(given) if isinstance(given, Plan) else given
     return altairpeg("show", *words, "-", input=card, **options)
 

@@ -1,8 +1,22 @@
 """The order of document 01's first tests, for whole numbers of any size: what the library would answer were C's types wide enough."""
 
 import math
+from typing import NamedTuple
 
-CARS, TRAINS, TRACKS, ROOM, STEPS, PASSES, SECONDS = 512, 64, 8, 512, 8, 4608, 4096
+
+class Limits(NamedTuple):
+    """The most that each count may be."""
+
+    cars: int
+    trains: int
+    tracks: int
+    room: int
+    steps: int
+
+
+# Those of bigger nights, and document 01's, which the fewest passes keep.
+BIGGER, FIRST = Limits(4096, 256, 16, 4096, 16), Limits(512, 64, 8, 512, 8)
+PASSES, SECONDS = 69632, 4096
 
 
 def first(tests):
@@ -10,13 +24,13 @@ def first(tests):
     return next((refusal for holds, refusal in tests if not holds), None)
 
 
-def counts(night, steps, stage):
+def counts(night, steps, stage, limits=BIGGER):
     """Tests of 1, the lowest A first."""
-    yield 1 <= len(night.inbound) <= CARS, (1, 1, 0)
-    yield 1 <= len(night.lengths) <= TRAINS, (1, 2, 0)
-    yield 1 <= night.tracks <= TRACKS, (1, 3, 0)
-    yield 1 <= night.room <= ROOM, (1, 4, 0)
-    yield 0 <= steps <= STEPS, (1, 5, 0)
+    yield 1 <= len(night.inbound) <= limits.cars, (1, 1, 0)
+    yield 1 <= len(night.lengths) <= limits.trains, (1, 2, 0)
+    yield 1 <= night.tracks <= limits.tracks, (1, 3, 0)
+    yield 1 <= night.room <= limits.room, (1, 4, 0)
+    yield 0 <= steps <= limits.steps, (1, 5, 0)
     yield 0 <= stage <= steps, (1, 6, 0)
 
 
@@ -33,22 +47,36 @@ def night_tests(night):
 
 
 def code_tests(night, steps, codes):
-    """Tests of 4, 7 and 14."""
+    """Tests of 4 and 7."""
     yield len(codes) == len(night.inbound), (4, 3, 0)
     for car, code in enumerate(codes, 1):
         yield 0 <= code < 2**steps, (7, car, 0)
+
+
+def zero_tests(night, codes):
+    """Tests of 14."""
     for car, code in enumerate(codes, 1):
         yield code != 0 or night.mark == "open", (14, car, 0)
 
 
-def derive(night, steps):
-    """What derive, with its limit, and fewest_passes, with its steps, test before they look at the order of the cars."""
-    return first(counts(night, steps, 0)) or first(night_tests(night))
+def derive(night, limit):
+    """What derive tests before it looks at the order of the cars."""
+    return first(counts(night, limit, 0)) or first(night_tests(night))
+
+
+def fewest_passes(night, steps):
+    """The same of fewest_passes."""
+    return first(counts(night, steps, 0, FIRST)) or first(night_tests(night))
+
+
+def card(night, steps, codes, stage=0):
+    """What the writer tests."""
+    return first(counts(night, steps, stage)) or first(night_tests(night)) or first(code_tests(night, steps, codes))
 
 
 def plan(night, steps, codes, stage=0):
-    """What check and replay test before the plan is replayed, and of an open night all that the writer tests."""
-    return first(counts(night, steps, stage)) or first(night_tests(night)) or first(code_tests(night, steps, codes))
+    """What check and replay test before the plan is replayed."""
+    return card(night, steps, codes, stage) or first(zero_tests(night, codes))
 
 
 def allowed(seconds):
@@ -61,7 +89,7 @@ def allowed(seconds):
 def price(steps, passes, pull, push):
     """What price tests."""
     return first([
-        (0 <= steps <= STEPS, (1, 5, 0)),
+        (0 <= steps <= BIGGER.steps, (1, 5, 0)),
         (0 <= passes <= PASSES, (1, 7, 0)),
         (allowed(pull), (13, 1, 0)),
         (allowed(push), (13, 2, 0)),

@@ -1,4 +1,4 @@
-"""What the tests share: night N, open and closed, and its card, a scratch folder, and the command line as a process of its own."""
+"""What the tests share: night N, open and closed, and its cards, a scratch folder, and the command line as a process of its own."""
 
 import json
 import os
@@ -17,6 +17,8 @@ CODES = [0, 0, 1, 1, 2, 3]
 # The codes of night N where it is closed: three steps.
 CLOSED_CODES = [1, 1, 2, 2, 3, 5]
 CARD = bytes.fromhex("12200C060203006030020280 40202D80")
+# The card of that night with room for 4, which is of edition 2: the mark, 3 steps, 2 tracks, room 4, 6 cars, 1 train.
+CLOSED_CARD = bytes.fromhex("28C40040030040 0C003003000400A002002129 3A")
 # The plan of case 6, which check refuses with 9, car 3; and a card that the reader refuses with 10, 16 bytes.
 DISORDERED = [0, 0, 0, 1, 2, 3]
 SHORT = CARD[:15]
@@ -37,9 +39,9 @@ def one_car(mark):
     return Night([1], [1], 2, 512, mark)
 
 
-def turned(cars, tracks, mark=OPEN):
+def turned(cars, tracks, mark=OPEN, room=512):
     """One train of cars that come in the wrong way round."""
-    return Night([cars], list(range(cars, 0, -1)), tracks, 512, mark)
+    return Night([cars], list(range(cars, 0, -1)), tracks, room, mark)
 
 
 def as_json(plan):

@@ -7,8 +7,8 @@ import pty
 import subprocess
 import unittest
 
-from altairpeg import Plan, read_card_file, write_card
-from support import CARD, CLOSED, CODES, DISORDERED, SHORT, Scratch, altairpeg, as_json, n
+from altairpeg import Plan, derive, read_card_file, write_card
+from support import CARD, CLOSED, CLOSED_CARD, CODES, DISORDERED, SHORT, Scratch, altairpeg, as_json, n, turned
 
 NAMES = "card,number,a,b,steps,tracks,room,cars,trains,passes,fullest_pull,words\n"
 FIRST = ",0,0,0,2,2,3,6,1,11,3,done\n"
@@ -44,6 +44,19 @@ class Batch(Scratch):
             'c.card,10,16,0,,,,,,,,"card too short (16 bytes needed, as far as known)"\n'
             "d.card,5,3,0,,,,,,,,fewest steps above the limit (fewest steps 3)\n"
         ))
+
+    def test_both_editions(self):
+        self.card("a.card")
+        self.card("b.card", CLOSED_CARD)
+        self.card("c.card", write_card(derive(turned(257, 9)).plan))
+        new = self.folder / "new"
+        self.ran(altairpeg("batch", self.cards, "-o", new), 0, (
+            f"{NAMES}a.card{FIRST}"
+            "b.card,0,0,0,3,2,4,6,1,14,4,done\n"
+            "c.card,0,0,0,9,9,512,257,1,1282,128,done\n"
+        ))
+        for name in ("a.card", "b.card", "c.card"):
+            self.assertEqual((new / name).read_bytes(), (self.cards / name).read_bytes())
 
     def test_limit(self):
         self.card("a.card")

@@ -20,6 +20,16 @@ except altairpeg.AltairpegError as trouble:
 """
 
 
+PRICE = """
+struct told {{ unsigned long number, a, b; double price; }};
+struct timings {{ double pull, push; }};
+struct told altairpeg_price(unsigned long steps, unsigned long passes, struct timings timings) {{
+    struct told told = {{steps > {steps}, 5, 0, 0.0 * (double)passes * timings.pull}};
+    return told;
+}}
+"""
+
+
 class Building(Scratch):
     def setUp(self):
         super().setUp()
@@ -45,10 +55,15 @@ class Building(Scratch):
         """The shared objects in the cache."""
         return sorted(self.cache.glob("altairpeg/*"))
 
-    def other(self, *lacks):
-        """Puts a library of another make into the archive's place, much older than the first: of every code it says 42."""
-        calls = "".join(f"unsigned long {name}(void) {{ return 42; }}\n" for name in CALLS if name not in lacks)
-        source, object_file = self.file("other.c", calls.encode()), self.folder / "other.o"
+    def other(self, *lacks, steps=16):
+        """Puts a library of another make into the archive's place, much older than the first: of every code it says 42.
+
+        It prices so many steps, and refuses more as a count out of its range.
+        """
+        calls = {name: f"unsigned long {name}(void) {{ return 42; }}\n" for name in CALLS}
+        calls["altairpeg_price"] = PRICE.format(steps=steps)
+        code = "".join(call for name, call in calls.items() if name not in lacks)
+        source, object_file = self.file("other.c", code.encode()), self.folder / "other.o"
         subprocess.run(["gcc", "-c", "-fPIC", source, "-o", object_file], check=True)
         self.archive.unlink()
         subprocess.run(["ar", "rc", self.archive, object_file], check=True)
@@ -68,8 +83,9 @@ class Building(Scratch):
         self.assertEqual(len(self.made()), 2)
 
     def test_an_earlier_library(self):
-        self.other("altairpeg_fewest_passes")
-        self.tells(r".*an archive\.a is of an Altairpeg before 2\.1\.0, which has no altairpeg_fewest_passes: run `rt .*` anew")
+        for lacks in ([], ["altairpeg_fewest_passes"]):
+            self.other(*lacks, steps=8)
+            self.tells(r".*an archive\.a is of an Altairpeg before 3\.0\.0, whose calls take other arguments: run `rt .*` anew")
 
     def test_a_library_that_lacks_more(self):
         self.other("altairpeg_fewest_passes", "altairpeg_price")

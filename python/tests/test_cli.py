@@ -7,8 +7,9 @@ import sys
 import unittest
 
 import altairpeg as package
-from altairpeg import Plan, derive, write_card
-from support import CARD, CLOSED, CLOSED_CODES, CODES, DISORDERED, INBOUND, PYTHON, SHORT, Scratch, altairpeg, as_json, n, python
+from altairpeg import Night, Plan, derive, write_card
+from support import CARD, CLOSED, CLOSED_CARD, CLOSED_CODES, CODES, DISORDERED, INBOUND, OPEN, PYTHON, SHORT
+from support import Scratch, altairpeg, as_json, n, python, turned
 
 NIGHT = ("--lengths", "6", "--inbound", "3,6,1,5,2,4", "--mark", "open", "--tracks", "2", "--room", "3")
 FIRST = {"lengths": [6], "inbound": INBOUND, "tracks": 2, "room": 3, "mark": "open"}
@@ -16,7 +17,6 @@ HEAD = "steps 2 tracks 2 room 3 cars 6 trains 1"
 CLOSED_HEAD = "steps 3 tracks 2 room 4 cars 6 trains 1 mark closed"
 CLOSED_NIGHT = n(room=4, mark=CLOSED)
 CLOSED_PLAN = Plan(CLOSED_NIGHT, 3, CLOSED_CODES)
-NO_CARD = "altairpeg: a closed night goes on no card yet: a card of edition 1 means an open one\n"
 NO_MARK = "altairpeg: mark is missing: a night must say whether it is open or closed\n"
 TIMINGS = ("--pull", "1.5", "--push", "0.25")
 # The commands that take a night, and those that take a plan.
@@ -49,10 +49,17 @@ class Cards(Scratch):
         new = self.folder / "new.card"
         unmarked = [word for word in NIGHT if word not in ("--mark", "open")]
         self.ran(altairpeg("card", *unmarked, "-o", new), 2, "", NO_MARK)
-        self.ran(altairpeg("card", *unmarked, "--mark", "closed", "-o", new), 2, "", NO_CARD)
-        self.ran(altairpeg("card", *unmarked, "--mark", "closed", "--limit", "0", "-o", new), 2, "", NO_CARD)
-        self.ran(altairpeg("card", self.file("closed.json", as_json(CLOSED_PLAN)), "-o", new), 2, "", NO_CARD)
         self.assertFalse(new.exists())
+        for given in ((*unmarked[:-1], "4", "--mark", "closed"), [self.file("closed.json", as_json(CLOSED_PLAN))]):
+            self.ran(altairpeg("card", *given, "-o", new), 0, f"{new}: 20 bytes, {CLOSED_HEAD}\n")
+            self.assertEqual(new.read_bytes(), CLOSED_CARD)
+            new.unlink()
+
+    def test_nine_steps(self):
+        night = self.file("night.json", as_json(turned(257, 9)))
+        run = altairpeg("card", night)
+        self.assertEqual((run.stdout, run.returncode), (write_card(derive(turned(257, 9)).plan), 0))
+        self.ran(altairpeg("card", night, "--limit", "8"), 1, "", "refused 5 9 0: fewest steps above the limit (fewest steps 9)\n")
 
     def test_refused(self):
         self.ran(altairpeg("card", *NIGHT, "--limit", "1"), 1, "", "refused 5 2 0: fewest steps above the limit (fewest steps 2)\n")
@@ -127,7 +134,7 @@ class OneCard(Scratch):
     def test_a_refusal_line_in_place_of_a_card(self):
         for command in ("check", "derive"):
             self.ran(altairpeg(command, "-", input=b"refused 10 16 0\n"), 1, "", SHORT_LINE)
-        self.ran(altairpeg("check", "-", input=b"refused"), 1, "", "refused 11 7 0: card edition not 1 (edition 7)\n")
+        self.ran(altairpeg("check", "-", input=b"refused"), 1, "", "refused 11 7 0: card edition not 1 or 2 (edition 7)\n")
 
     def test_files_that_cannot_be_read_or_written(self):
         missing = self.folder / "missing.card"
@@ -147,7 +154,7 @@ class OneCard(Scratch):
 
 
 class JsonFiles(Scratch):
-    """Nights and plans in JSON files, which keep the mark that no card has."""
+    """Nights and plans in JSON files."""
 
     def setUp(self):
         super().setUp()
@@ -177,11 +184,16 @@ class JsonFiles(Scratch):
         self.ran(altairpeg("derive", self.file("a.card", card), "-o", self.new), 0, lines)
         self.ran(altairpeg("check", self.new), 0, "steps 2 tracks 2 room 4 cars 6 trains 1 passes 11 fullest pull 3\n")
 
-    def test_a_closed_night_goes_on_no_card(self):
-        for limit in ("8", "0"):
-            for name in (self.folder / "new.card", "-"):
-                self.ran(altairpeg("derive", self.night, "--limit", limit, "-o", name), 2, "", NO_CARD)
-        self.assertEqual(sorted(file.name for file in self.folder.iterdir()), ["night.json", "plan.json"])
+    def test_a_closed_night_on_a_card(self):
+        self.assertEqual(altairpeg("derive", self.night, "-o", "-").stdout, CLOSED_CARD)
+        card = self.file("closed.card", CLOSED_CARD)
+        self.ran(altairpeg("check", card), 0, f"{CLOSED_HEAD} passes 14 fullest pull 4\n")
+        self.ran(altairpeg("derive", card, "-o", self.new), 0, f"{CLOSED_HEAD} passes 14\ncodes 1 1 2 2 3 5\n")
+        self.assertEqual(json.loads(self.new.read_bytes()), json.loads(as_json(CLOSED_PLAN)))
+        self.ran(altairpeg("derive", self.night, "--limit", "0", "-o", self.folder / "new.card"), 1, "", (
+            "refused 5 3 0: fewest steps above the limit (fewest steps 3)\n"
+        ))
+        self.assertFalse((self.folder / "new.card").exists())
 
     def test_a_refusal_leaves_the_old_file(self):
         self.new.write_bytes(b"old")
@@ -227,7 +239,14 @@ class JsonFiles(Scratch):
 
     def test_standard_input_is_a_card(self):
         said = "altairpeg: - looks like JSON, not like a card: the name of a JSON file ends in .json\n"
-        self.ran(altairpeg("check", "-", input=as_json(CLOSED_PLAN)), 2, "", said)
+        for before in (b"", b"\n", b"\r\n\t"):
+            self.ran(altairpeg("check", "-", input=before + as_json(CLOSED_PLAN)), 2, "", said)
+
+    def test_a_card_that_begins_with_blanks_and_a_brace(self):
+        plan = Plan(Night([1], [1], 16, 1968, OPEN), 0, [0])
+        card = write_card(plan)
+        self.assertEqual(card[:3], b"  {")
+        self.ran(altairpeg("check", "-", input=card), 0, "steps 0 tracks 16 room 1968 cars 1 trains 1 passes 1 fullest pull 0\n")
 
     def test_a_name_that_stands_twice(self):
         first = '"lengths": [6], "inbound": [3, 6, 1, 5, 2, 4], "tracks": 2, "room": 4'

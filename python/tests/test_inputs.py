@@ -17,7 +17,7 @@ import altairpeg
 from altairpeg import AltairpegError, Derived, FileError, InputError, LibraryError, Mark, Night, Plan, Refusal
 from altairpeg import check, derive, fewest_passes, fewest_tracks, price, read_card, read_card_file, replay, write_card
 from altairpeg.library import CardAnswer
-from support import CARD, CLOSED, CLOSED_CODES, CODES, INBOUND, OPEN, SHORT, Scratch, n, skipped
+from support import CARD, CLOSED, CLOSED_CARD, CLOSED_CODES, CODES, INBOUND, OPEN, SHORT, Scratch, n, skipped
 
 try:
     import numpy
@@ -124,7 +124,14 @@ class Lists(Scratch):
         self.assertEqual(self.refused(7, 6, 0, check, Plan(n(), 2, [0, 0, 1, 1, 2, 4])).place, "codes[5] is 4")
         self.assertEqual(self.refused(4, 3, 0, check, Plan(n(), 2, [0])).place, "len(codes) is 1")
         self.assertEqual(self.refused(1, 5, 0, derive, n(), -1).place, "limit is -1")
-        self.assertEqual(self.refused(1, 5, 0, fewest_passes, n(), 9).place, "steps is 9")
+        self.assertEqual(self.refused(1, 5, 0, derive, n(), 17).place, "limit is 17")
+        found = "the fewest passes are found for at most"
+        self.assertEqual(self.refused(1, 5, 0, fewest_passes, n(), 9).place, f"steps is 9; {found} 8")
+        self.assertEqual(self.refused(1, 1, 0, fewest_passes, Night([513], range(1, 514), 2, 3, OPEN), 2).place, f"len(inbound) is 513; {found} 512")
+        self.assertEqual(self.refused(1, 2, 0, fewest_passes, Night([1] * 65, range(1, 66), 2, 3, OPEN), 2).place, f"len(lengths) is 65; {found} 64")
+        self.assertEqual(self.refused(1, 3, 0, fewest_passes, n(tracks=9), 2).place, f"tracks is 9; {found} 8")
+        self.assertEqual(self.refused(1, 4, 0, fewest_passes, n(room=513), 2).place, f"room is 513; {found} 512")
+        self.assertEqual(self.refused(1, 1, 0, fewest_passes, Night([6], range(10**30), 2, 3, OPEN), 2).place, f"{found} 512")
         self.assertEqual(self.refused(1, 6, 0, replay, Plan(n(), 2, CODES), 2**64).place, "stage is 18446744073709551616")
         self.assertEqual(self.refused(13, 1, 0, price, 2, 11, 0.1, 0.25).place, "pull is 0.1")
         self.assertIsNone(self.refused(6, 0, 3, derive, n(room=2)).place)
@@ -166,9 +173,10 @@ class Counts(Scratch):
         for given in NOT_WHOLE:
             self.assertRaisesRegex(InputError, "^steps is .*, not a whole number$", fewest_passes, n(), given)
 
-    def test_a_code_is_a_byte(self):
-        for code in (-1, 256, 2**64):
-            self.assertRaisesRegex(InputError, "^code is -?[0-9]+, not 0 to 255$", fewest_tracks, code)
+    def test_a_code_has_sixteen_bits(self):
+        self.assertEqual([fewest_tracks(code) for code in (255, 256, 2**15, 2**16 - 1)], [1, 9, 16, 1])
+        for code in (-1, 2**16, 2**64):
+            self.assertRaisesRegex(InputError, "^code is -?[0-9]+, not 0 to 65535$", fewest_tracks, code)
 
     def test_seconds(self):
         self.assertEqual(price(2, 11, Decimal("1.5"), Fraction(1, 4)), 5.75)
@@ -211,17 +219,20 @@ class Marks(Scratch):
 
     def test_the_reader_tells_the_mark(self):
         self.assertIs(read_card(CARD).night.mark, Mark.OPEN)
+        self.assertIs(read_card(CLOSED_CARD).night.mark, Mark.CLOSED)
         for number, mark in ((0, OPEN), (1, CLOSED), (7, CLOSED)):
             told = CardAnswer(mark=number, tracks=1, room=1, cars=1, trains=1)
             with mock.patch("altairpeg.calls.library", lambda: SimpleNamespace(altairpeg_read=lambda *_: told)):
                 self.assertIs(read_card(b"").night.mark, mark)
 
-    def test_a_closed_night_goes_on_no_card(self):
-        for steps, codes in ((3, CLOSED_CODES), (2, CODES), (9, CODES), (2, [4] * 6), (2, [])):
-            with self.assertRaises(InputError) as caught:
-                write_card(Plan(n(mark=CLOSED), steps, codes))
-            self.assertEqual(str(caught.exception), "a closed night goes on no card yet: a card of edition 1 means an open one")
-        self.assertEqual(read_card(write_card(Plan(n(), 3, CLOSED_CODES))), Plan(n(), 3, CLOSED_CODES))
+    def test_a_card_keeps_the_mark(self):
+        for mark in (OPEN, CLOSED):
+            for steps, codes in ((3, CLOSED_CODES), (2, CODES), (16, [65535] * 6)):
+                plan = Plan(n(mark=mark), steps, codes)
+                self.assertEqual(read_card(write_card(plan)), plan)
+            self.refused(1, 5, 0, write_card, Plan(n(mark=mark), 17, CODES))
+            self.refused(7, 1, 0, write_card, Plan(n(mark=mark), 2, [4] * 6))
+            self.refused(4, 3, 0, write_card, Plan(n(mark=mark), 2, []))
 
 
 class Cards(Scratch):
@@ -241,10 +252,13 @@ class Cards(Scratch):
         self.refused(12, 16, 0, read_card_file, self.file("long.card", CARD + bytes(10**6)))
 
     def test_the_longest_card(self):
-        longest = write_card(Plan(Night([8] * 64, range(1, 513), 8, 512, OPEN), 8, [255] * 512))
-        self.assertEqual(len(longest), 1237)
-        self.assertEqual(read_card_file(self.file("longest.card", longest)), read_card(longest))
-        self.refused(12, 1237, 0, read_card_file, self.file("longer.card", longest + b"\0"))
+        first = write_card(Plan(Night([8] * 64, range(1, 513), 8, 512, OPEN), 8, [255] * 512))
+        bigger = write_card(Plan(Night([16] * 256, range(1, 4097), 16, 4096, OPEN), 16, [65535] * 4096))
+        for card, edition, length in ((first, 1, 1237), (bigger, 2, 15271)):
+            self.assertEqual((card[0] >> 4, len(card)), (edition, length))
+            self.assertEqual(read_card_file(self.file("longest.card", card)), read_card(card))
+            self.refused(12, length, 0, read_card_file, self.file("longer.card", card + b"\0"))
+            self.refused(10, length, 0, read_card_file, self.file("shorter.card", card[:-1]))
 
     def test_files_that_cannot_be_read(self):
         for path in (self.folder, self.folder / "missing.card"):

@@ -3,11 +3,12 @@
 import subprocess
 import unittest
 
+from altairpeg import Night, Plan
 from altairpeg.show import brief, draw
 from altairpeg.story import tell
 
 from drawings import BARRED, EARLY, NINE, OUT_OF_ORDER, OVERFILLED, SHUT, many, show, zeroed
-from support import CARD, CLOSED, PYTHON, SHORT, Scratch, altairpeg
+from support import CARD, CLOSED, PYTHON, SHORT, Scratch, altairpeg, as_json
 
 # How the drawing of each refused plan ends.
 ENDS = (
@@ -56,6 +57,12 @@ class Show(Scratch):
         self.ran(show(SHUT), 0, (PYTHON / "tests" / "closed.txt").read_text())
         self.ran(show(SHUT, "--brief"), 0, (PYTHON / "tests" / "closed_brief.txt").read_text())
 
+    def test_a_json_file(self):
+        for plan in (SHUT, OVERFILLED):
+            drawn = show(plan)
+            file = self.file("plan.json", as_json(plan))
+            self.ran(altairpeg("show", file, set={"COLUMNS": "80"}), drawn.returncode, drawn.stdout.decode())
+
     def test_the_brief_of_a_story_that_ends_at_the_first_roll_in(self):
         self.ran(show(BARRED, "--brief"), 1, (
             "steps 3 tracks 2 room 4 cars 6 trains 1 mark closed\n"
@@ -87,6 +94,19 @@ class Show(Scratch):
             for width in (40, 80, 132):
                 for text in (draw(story, width), brief(story, width)):
                     self.assertLessEqual(max(map(len, text.splitlines())), width)
+
+    def test_4096_cars_fit_the_width(self):
+        for plan in (many(256, 16, 16), many(256, 16, 2, CLOSED), many(8, 512, 16, CLOSED), zeroed(many(256, 16, 16, CLOSED))):
+            story = tell(plan)
+            for width in (40, 160):
+                for text in (draw(story, width), brief(story, width)):
+                    self.assertLessEqual(max(map(len, text.splitlines())), width)
+
+    def test_sixteen_tracks_and_steps(self):
+        plan = Plan(Night([2], [2, 1], 16, 2, CLOSED), 16, [2**15, 2**15 + 1])
+        text = draw(tell(plan))
+        for line in ("  track 0  | 2", "  track 15 | 1", "step 14 finds track 14 empty", "step 15 pulls track 15: 1 2", "  train 1  | 1 2"):
+            self.assertIn(f"\n{line}\n", text)
 
     def test_512_cars_are_a_few_pages(self):
         self.assertLess(len(draw(tell(many(64, 8))).splitlines()), 600)

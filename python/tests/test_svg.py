@@ -1,20 +1,22 @@
 """The picture: well-formed, complete, and readable by its numbers; the README's is current."""
 
+import re
 import unittest
 from pathlib import Path
 from xml.etree import ElementTree
 
 from altairpeg import Night, Plan, read_card
-from altairpeg.colours import COLOURS, band, contrast, fill, number_colour
+from altairpeg.colours import COLOURS, bands, contrast, fill, number_colour
 from altairpeg.story import tell
-from altairpeg.svg import picture
+from altairpeg.page import LETTER
+from altairpeg.svg import Sheet, picture
 
-from drawings import BARRED, EARLY, NINE, OUT_OF_ORDER, OVERFILLED, SHUT, Drawing, many, show, words, zeroed
+from drawings import BARRED, EARLY, NAME, NINE, OUT_OF_ORDER, OVERFILLED, SHUT, Drawing, many, show, words, zeroed
 from support import CARD, CLOSED, OPEN, PYTHON, Scratch
 
 ALL_EARLY = Plan(Night([12], list(range(1, 13)), 1, 12, OPEN), 2, [2] * 12)
 KEPT = PYTHON.parent / "docs" / "first-card.svg"
-TRAINS = range(1, 65)
+TRAINS = range(1, 257)
 
 
 class Picture(Drawing):
@@ -73,8 +75,20 @@ class Picture(Drawing):
     def test_nothing_leaves_the_picture(self):
         plans = (Plan(Night([1], [1], 1, 1, OPEN), 0, [0]), many(4, 15), many(64, 8), many(1, 512, 8), OVERFILLED, ALL_EARLY)
         closed = (SHUT, BARRED, many(4, 15, mark=CLOSED), many(5, 1, mark=CLOSED), many(1, 512, 8, CLOSED), zeroed(many(64, 8, mark=CLOSED)))
-        for plan in (*plans, *closed):
+        bigger = (many(256, 16, 16), many(1, 4096, 16, CLOSED), zeroed(many(256, 16, 16, CLOSED)))
+        for plan in (*plans, *closed, *bigger):
             self.stays_inside(picture(tell(plan)))
+
+    def test_numbers_of_four_digits_have_room(self):
+        """Those of cars in their boxes, and those of a row before its boxes."""
+        for plan in (many(256, 16, 16), zeroed(many(256, 16, 16, CLOSED))):
+            scale = Sheet(tell(plan)).scale
+            for text in ElementTree.fromstring(picture(tell(plan))).iter(f"{NAME}text"):
+                wide = len(text.text or "") * float(text.get("font-size")) * LETTER
+                if re.fullmatch("[0-9]+!?", text.text or ""):
+                    self.assertLessEqual(wide, scale.width - 2, text.text)
+                elif re.fullmatch("[0-9]+ of [0-9]+(, pulled)?", text.text or ""):
+                    self.assertLessEqual(wide, scale.label, text.text)
 
     def test_nothing_from_outside(self):
         for plan in (many(64, 8), SHUT):
@@ -83,8 +97,9 @@ class Picture(Drawing):
 
 class Colours(unittest.TestCase):
     def test_each_train_has_a_look_of_its_own(self):
-        self.assertEqual(len({(fill(train), band(train)) for train in TRAINS}), 64)
-        self.assertTrue(all(band(train) != fill(train) for train in TRAINS))
+        self.assertEqual(len({(fill(train), *bands(train)) for train in TRAINS}), 256)
+        self.assertTrue(all(fill(train) not in bands(train) for train in TRAINS))
+        self.assertEqual([len(bands(train)) for train in (8, 9, 64, 65, 256)], [0, 1, 1, 2, 2])
 
     def test_numbers_can_be_read(self):
         self.assertEqual(len(set(COLOURS)), 8)

@@ -4,7 +4,7 @@ import json
 import unittest
 from xml.etree import ElementTree
 
-from altairpeg import Night, Plan, write_card
+from altairpeg import Night, Plan, derive, write_card
 from altairpeg.chart import COLUMN, picture
 from altairpeg.choices import weigh
 from altairpeg.page import LETTER
@@ -96,7 +96,7 @@ class Refused(Command):
         self.ran(self.tradeoff(given, *options), 1, "", f"{line}\n")
 
     def test_nights(self):
-        self.says(blocks()._replace(tracks=9), "refused 1 3 0: a count out of its range (tracks): tracks is 9")
+        self.says(blocks()._replace(tracks=9), "refused 1 3 0: a count out of its range (tracks): tracks is 9; the fewest passes are found for at most 8")
         self.says(blocks()._replace(lengths=[6, 0]), "refused 2 2 0: a train of length 0, or lengths not adding up to n (train 2): lengths[1] is 0")
         self.says(blocks()._replace(inbound=[1, 1, 2, 3, 4, 5]), (
             "refused 3 2 1: inbound list not each car once (place 2, met before, first listed at place 1): inbound[0] and inbound[1] are both 1"
@@ -105,6 +105,13 @@ class Refused(Command):
     def test_no_steps_will_do(self):
         self.says(turned(257, 8), "refused 5 9 0: fewest steps above the limit (fewest steps 9)")
         self.says(turned(256, 8, CLOSED), "refused 5 9 0: fewest steps above the limit (fewest steps 9)")
+
+    def test_bigger_nights(self):
+        """What derive takes and the fewest passes do not, from a file and from a card."""
+        line = "refused 1 1 0: a count out of its range (cars): len(inbound) is 513; the fewest passes are found for at most 512\n"
+        self.says(turned(513, 16, room=513), line[:-1])
+        card = self.file("a.card", write_card(derive(turned(513, 16, room=513)).plan))
+        self.ran(altairpeg("tradeoff", card, *TIMINGS), 1, "", line)
 
     def test_timings(self):
         for night in (blocks(), blocks(room=1)):

@@ -1,4 +1,4 @@
-"""The trial nights of document 01, each under its number, the same nights closed, the fewest passes, and the module's own promises."""
+"""The trial nights of document 01, each under its number, closed and bigger nights, cards of both editions, the fewest passes, and the module's own promises."""
 
 import doctest
 import itertools
@@ -9,7 +9,7 @@ import unittest
 
 import altairpeg
 from altairpeg import Checked, Derived, Night, Plan, Refusal, check, derive, fewest_passes, fewest_tracks, price, read_card, replay, write_card
-from support import CARD, CLOSED, CLOSED_CODES, CODES, INBOUND, OPEN, Scratch, blocks, n, one_car, turned
+from support import CARD, CLOSED, CLOSED_CARD, CLOSED_CODES, CODES, INBOUND, OPEN, Scratch, blocks, n, one_car, turned
 
 
 class TrialNights(Scratch):
@@ -60,8 +60,8 @@ class TrialNights(Scratch):
         self.refused(5, 3, 0, derive, n(tracks=1), 2)
 
     def test_case_14(self):
-        self.refused(5, 9, 0, derive, turned(257, 8))
-        self.assertEqual(derive(turned(256, 8)).steps, 8)
+        self.refused(5, 9, 0, derive, turned(257, 8), 8)
+        self.assertEqual(derive(turned(256, 8), 8).steps, 8)
 
     def test_check_of_case_1(self):
         self.assertEqual(check(Plan(n(), 2, [0, 0, 1, 1, 2, 3])), Checked(passes=11, fullest_pull=3))
@@ -77,13 +77,17 @@ class TrialNights(Scratch):
     def test_price(self):
         self.assertEqual(price(2, 11, 1.5, 0.25), 5.75)
         self.refused(13, 2, 0, price, 2, 11, 1.5, math.nan)
-        self.refused(1, 7, 0, price, 8, 4609, 0.1, 0.1)
+        self.assertEqual(price(16, 69632, 4096, 4096), 69648 * 4096)
+        self.refused(1, 5, 0, price, 17, 69633, 0.1, 0.1)
+        self.refused(1, 7, 0, price, 16, 69633, 0.1, 0.1)
 
     def test_fewest_tracks(self):
         self.assertEqual([fewest_tracks(code) for code in (0, 4, 5, 9, 129, 128)], [1, 3, 2, 3, 7, 8])
+        self.assertEqual([fewest_tracks(2**bit) for bit in range(16)], list(range(1, 17)))
+        self.assertEqual([fewest_tracks(2**bit | 1) for bit in range(1, 16)], list(range(1, 16)))
 
     def test_numbers_too_large_are_not_cut_off(self):
-        self.assertRaises(ValueError, fewest_tracks, 256)
+        self.assertRaises(ValueError, fewest_tracks, 2**16)
         self.refused(2, 0, 0, derive, Night([6 + 2**16], INBOUND, 2, 3, OPEN))
         self.refused(1, 3, 0, derive, n(tracks=2 + 2**64))
 
@@ -132,7 +136,7 @@ class ClosedNights(Scratch):
         self.assertEqual([derive(turned(7, 2, mark)).steps for mark in (OPEN, CLOSED)], [3, 4])
         self.assertEqual(derive(turned(6, 2, CLOSED)).codes, [1, 2, 3, 5, 6, 7])
         self.assertEqual(derive(turned(255, 8, CLOSED)).steps, 8)
-        self.refused(5, 9, 0, derive, turned(256, 8, CLOSED))
+        self.refused(5, 9, 0, derive, turned(256, 8, CLOSED), 8)
 
     def test_the_same_codes_open_and_closed(self):
         for call in (check, lambda plan: replay(plan, 1)):
@@ -155,19 +159,87 @@ class ClosedNights(Scratch):
         self.assertEqual(refusal.name, "ZERO_CODE")
 
     def test_the_code_numbers(self):
-        chance = random.Random(7)
+        chance, needed = random.Random(7), [fewest_tracks(code) for code in range(2**16)]
         for _ in range(300):
-            cars, tracks = chance.randint(2, 24), chance.randint(1, 8)
+            cars, tracks = chance.randint(2, 24), chance.randint(1, 16)
             first = chance.randint(1, cars - 1)
             night = Night([first, cars - first], chance.sample(range(1, cars + 1), cars), tracks, 512, OPEN)
-            usable = [code for code in range(256) if fewest_tracks(code) <= tracks]
+            usable = [code for code, fewest in enumerate(needed) if fewest <= tracks]
             for mark, skipped in ((OPEN, 0), (CLOSED, 1)):
                 if max(breaks(night)) + skipped >= len(usable):
-                    continue  # more breaks than eight steps can mend
+                    continue  # more breaks than sixteen steps can mend
                 derived = derive(night._replace(mark=mark))
                 self.assertEqual(derived.codes, [usable[count + skipped] for count in breaks(night)])
                 self.assertEqual(derived.steps, max(derived.codes).bit_length())
                 self.assertEqual(check(derived.plan).passes, derived.passes)
+
+
+class BiggerNights(Scratch):
+    """Beyond document 01's limits."""
+
+    def test_nine_steps(self):
+        derived = derive(turned(257, 9))
+        self.assertEqual(derived, Derived(steps=9, passes=257 + 8 * 128 + 1, codes=list(range(257))))
+        self.assertEqual(check(derived.plan), Checked(passes=1282, fullest_pull=128))
+        self.assertEqual(replay(derived.plan, 9).cars_on(9), list(range(1, 258)))
+        self.refused(5, 9, 0, derive, turned(257, 9), 8)
+        # On eight tracks 256 is no code: a car with it would stand on track 0 when step 0 pulls that.
+        self.assertEqual(derive(turned(257, 8)).codes, [*range(256), 257])
+
+    def test_4096_cars(self):
+        derived = derive(turned(4096, 16, room=4096))
+        self.assertEqual(derived, Derived(steps=12, passes=7 * 4096, codes=list(range(4096))))
+        self.assertEqual(check(derived.plan), Checked(passes=7 * 4096, fullest_pull=2048))
+        self.assertEqual(derive(turned(4096, 16, CLOSED, 4096)).steps, 13)
+        self.refused(5, 4095, 0, derive, turned(4096, 1, room=4096))
+        self.refused(1, 1, 0, derive, turned(4097, 16, room=4096))
+        self.refused(1, 4, 0, derive, turned(4096, 16, room=4097))
+        self.refused(1, 3, 0, derive, turned(4096, 17, room=4096))
+        self.refused(1, 2, 0, derive, Night([1] * 257, range(1, 258), 16, 512, OPEN))
+
+    def test_sixteen_steps_on_one_track(self):
+        derived = derive(turned(17, 1))
+        self.assertEqual(derived, Derived(steps=16, passes=17 * 18 // 2, codes=[2**q - 1 for q in range(17)]))
+        self.assertEqual(check(derived.plan).passes, derived.passes)
+        self.refused(5, 17, 0, derive, turned(17, 1, CLOSED))
+
+
+class Editions(Scratch):
+    """An open plan within document 01's limits goes on a card of edition 1, every other on one of edition 2."""
+
+    def test_a_closed_card_there_and_back(self):
+        plan = Plan(n(room=4, mark=CLOSED), 3, CLOSED_CODES)
+        self.assertEqual(write_card(plan), CLOSED_CARD)
+        self.assertEqual(read_card(CLOSED_CARD), plan)
+        for length in range(1, 7):
+            self.refused(10, 7, 0, read_card, CLOSED_CARD[:length])
+        self.refused(10, 20, 0, read_card, CLOSED_CARD[:19])
+        self.refused(12, 20, 0, read_card, CLOSED_CARD + b"\0")
+
+    def test_each_limit(self):
+        night = Night([8] * 64, range(1, 513), 8, 512, OPEN)
+        codes = [255] * 512
+        others = (
+            Plan(night._replace(mark=CLOSED), 8, codes), Plan(night, 9, codes), Plan(night._replace(tracks=9), 8, codes),
+            Plan(night._replace(room=513), 8, codes), Plan(Night([513], range(1, 514), 8, 512, OPEN), 8, [255] * 513),
+            Plan(Night([1] * 65, range(1, 66), 8, 512, OPEN), 8, [255] * 65),
+        )
+        for plan, edition in ((Plan(night, 8, codes), 1), *((other, 2) for other in others)):
+            card = write_card(plan)
+            self.assertEqual(card[0] >> 4, edition)
+            self.assertEqual(read_card(card)._replace(night=plan.night), plan)
+            self.assertEqual(write_card(read_card(card)), card)
+
+    def test_other_editions(self):
+        for edition in (0, *range(3, 16)):
+            self.refused(11, edition, 0, read_card, bytes([edition << 4]) * 20)
+
+    def test_17(self):
+        opened = bytes([CLOSED_CARD[0] & ~0x08]) + CLOSED_CARD[1:]
+        refusal = self.refused(17, 0, 0, read_card, opened)
+        self.assertEqual(str(refusal), "refused 17 0 0: wrong edition for this plan (the plan belongs on a card of edition 1)")
+        self.assertEqual(refusal.name, "WRONG_EDITION")
+        self.refused(12, 20, 0, read_card, opened[:-1] + bytes([opened[-1] | 1]))
 
 
 def builds(plan):

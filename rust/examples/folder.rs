@@ -3,7 +3,7 @@
 //! `folder FOLDER` prints a line for each file, by name. The exit status is 1 if a card is refused,
 //! 2 if the folder or a file in it can't be read.
 
-use altairpeg::{check, derive, read_card, Refusal};
+use altairpeg::{check, derive, read_card, Refusal, STEPS};
 use std::path::{Path, PathBuf};
 use std::process::ExitCode;
 use std::{env, fs, io};
@@ -52,7 +52,7 @@ fn one(bytes: &[u8]) -> Result<String, Refusal> {
     let card = read_card(bytes)?;
     let checked = check(card.plan())?;
     // A plan is good, so one with the fewest steps is there; only its room may be another.
-    let fewest = match derive(card.night(), 8) {
+    let fewest = match derive(card.night(), STEPS) {
         Ok(derived) => format!("fewest {}", derived.steps),
         Err(refusal) => format!("the plan with the fewest is {refusal}"),
     };

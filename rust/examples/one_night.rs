@@ -1,7 +1,7 @@
 //! One night, closed as in most yards and then open: derived with the fewest steps, priced, followed
-//! stage by stage, and stored on its card where it has one.
+//! stage by stage, and stored on its card.
 
-use altairpeg::{derive, price, replay, write_card, Mark, Night, Plan, Refusal, Timings};
+use altairpeg::{derive, price, replay, write_card, Mark, Night, Plan, Refusal, Timings, STEPS};
 use std::process::ExitCode;
 
 fn main() -> ExitCode {
@@ -27,7 +27,7 @@ fn main() -> ExitCode {
 
 /// Prints the mark, the derived plan, its price, the yard at each stage, and the card.
 fn tell(night: Night) -> Result<(), Refusal> {
-    let derived = derive(night, 8)?;
+    let derived = derive(night, STEPS)?;
     let timings = Timings {
         pull: 600.0,
         push: 4.5,
@@ -42,10 +42,7 @@ fn tell(night: Night) -> Result<(), Refusal> {
     for stage in 0..=plan.steps {
         println!("stage {stage}: {}", yard(plan, stage)?);
     }
-    match plan.open() {
-        Some(plan) => println!("card {:02x?}", write_card(plan)?),
-        None => println!("no card: closed nights go on none yet"),
-    }
+    println!("card {:02x?}", write_card(plan)?);
     Ok(())
 }
 

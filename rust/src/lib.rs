@@ -11,10 +11,10 @@
 //! ```
 //!
 //! ```
-//! use altairpeg::{check, derive, Mark, Night};
+//! use altairpeg::{check, derive, Mark, Night, STEPS};
 //!
 //! let night = Night { lengths: &[6], inbound: &[3, 6, 1, 5, 2, 4], tracks: 2, room: 4, mark: Mark::Closed };
-//! let derived = derive(night, 8)?;
+//! let derived = derive(night, STEPS)?;
 //! assert_eq!((derived.steps, derived.passes), (3, 14));
 //! assert_eq!(derived.codes, [1, 1, 2, 2, 3, 5]);
 //!
@@ -30,7 +30,13 @@ mod words;
 
 use altairpeg_sys::Answer;
 #[doc(inline)]
-pub use altairpeg_sys::{Mark, Night, OpenPlan, Plan, Timings, CARD_BYTES, CARS, TRAINS};
+pub use altairpeg_sys::{Mark, Night, Plan, Timings};
+#[doc(inline)]
+pub use altairpeg_sys::{CARD_BYTES, CARS, PASSES, ROOM, STEPS, TRACKS, TRAINS};
+#[doc(inline)]
+pub use altairpeg_sys::{
+    FIRST_CARD_BYTES, FIRST_CARS, FIRST_ROOM, FIRST_STEPS, FIRST_TRACKS, FIRST_TRAINS,
+};
 pub use refusal::Refusal;
 pub use words::Kind;
 
@@ -112,7 +118,7 @@ pub struct Card {
     pub tracks: usize,
     /// The room on each.
     pub room: usize,
-    /// The mark of the night: edition 1 means open.
+    /// The mark of the night: a card of edition 1 is open.
     pub mark: Mark,
     /// The steps of the plan.
     pub steps: usize,
@@ -182,15 +188,17 @@ pub fn derive(night: Night, limit: usize) -> Result<Derived, Refusal> {
 
 /// Finds the plan of just so many steps with the fewest passes; refuses 1, 2, 3, 5 or 6.
 ///
+/// It keeps document 01's limits: up to [`FIRST_CARS`] cars, [`FIRST_STEPS`] steps, and so on.
+///
 /// Of the plans with as few it is the one whose list of codes is smallest at the first differing car. In a
 /// closed night no car gets code 0. 5 says that no codes of these steps build the trains, and A is the fewest
 /// steps of which some do; 6 speaks of the found codes alone. One step more never makes the passes more:
 ///
 /// ```
-/// use altairpeg::{derive, fewest_passes, Mark, Night};
+/// use altairpeg::{derive, fewest_passes, Mark, Night, STEPS};
 ///
 /// let night = Night { lengths: &[6], inbound: &[6, 4, 5, 3, 2, 1], tracks: 4, room: 3, mark: Mark::Open };
-/// assert_eq!(derive(night, 8)?.passes, 13);
+/// assert_eq!(derive(night, STEPS)?.passes, 13);
 /// assert_eq!([3, 4, 5].map(|steps| fewest_passes(night, steps).unwrap().passes), [12, 11, 11]);
 /// assert_eq!(fewest_passes(night, 4)?.codes, [0, 1, 2, 4, 4, 8]);
 /// assert_eq!(fewest_passes(night, 2).unwrap_err().a, 3);
@@ -224,15 +232,14 @@ pub fn replay(plan: Plan, stage: usize) -> Result<Stage, Refusal> {
     })
 }
 
-/// Reads a night card; refuses 10, 11, 1, 2, 3 or 12. It accepts plans that [`check`] would refuse.
+/// Reads a night card; refuses 10, 11, 1, 2, 3, 12 or 17. It accepts plans that [`check`] would refuse.
 ///
 /// ```
 /// let card = altairpeg::read_card(&[
 ///     0x12, 0x20, 0x0C, 0x06, 0x02, 0x03, 0x00, 0x60, 0x30, 0x02, 0x02, 0x80, 0x40, 0x20, 0x2D, 0x80,
 /// ])?;
 /// assert_eq!(card.inbound, [3, 6, 1, 5, 2, 4]);
-/// let plan = card.plan().open().expect("edition 1 means open");
-/// assert_eq!(altairpeg::write_card(plan)?.len(), 16);
+/// assert_eq!(altairpeg::write_card(card.plan())?.len(), 16);
 /// # Ok::<(), altairpeg::Refusal>(())
 /// ```
 pub fn read_card(card: &[u8]) -> Result<Card, Refusal> {
@@ -255,10 +262,10 @@ pub fn read_card(card: &[u8]) -> Result<Card, Refusal> {
     })
 }
 
-/// Writes the night card of a plan of an open night; refuses 1, 2, 3, 4 or 7.
+/// Writes the night card of a plan; refuses 1, 2, 3, 4 or 7.
 ///
-/// A closed night goes on no card yet, so [`Plan::open`] is `None` for its plans.
-pub fn write_card(plan: OpenPlan) -> Result<Vec<u8>, Refusal> {
+/// It is of edition 1 where the night is open and all counts keep document 01's limits, else of edition 2.
+pub fn write_card(plan: Plan) -> Result<Vec<u8>, Refusal> {
     let mut card = vec![0; CARD_BYTES];
     let answer = done(altairpeg_sys::write(plan, &mut card))?;
     card.truncate(answer.a);
@@ -270,18 +277,19 @@ pub fn write_card(plan: OpenPlan) -> Result<Vec<u8>, Refusal> {
 /// ```
 /// let timings = altairpeg::Timings { pull: 1.5, push: 0.25 };
 /// assert_eq!(altairpeg::price(2, 11, timings), Ok(5.75));
-/// assert_eq!(altairpeg::price(9, 11, timings).unwrap_err().a, 5);
+/// assert_eq!(altairpeg::price(17, 11, timings).unwrap_err().a, 5);
 /// ```
 pub fn price(steps: usize, passes: usize, timings: Timings) -> Result<f64, Refusal> {
     let told = altairpeg_sys::price(steps, passes, timings);
     done(told.answer).map(|_| told.price)
 }
 
-/// The fewest tracks on which a car with this code is never pulled early.
+/// The fewest tracks, 1 to 16, on which a car with this code is never pulled early.
 ///
 /// ```
 /// assert_eq!([0, 4, 5, 9, 129, 128].map(altairpeg::fewest_tracks), [1, 3, 2, 3, 7, 8]);
+/// assert_eq!([256, 257, 1 << 15].map(altairpeg::fewest_tracks), [9, 8, 16]);
 /// ```
-pub fn fewest_tracks(code: u8) -> usize {
+pub fn fewest_tracks(code: u16) -> usize {
     altairpeg_sys::fewest_tracks(code)
 }

@@ -14,7 +14,7 @@ pub enum Kind {
     InboundWrong,
     /// 4: a list whose length isn't its count, or a buffer to be written too short. A: 1 lengths, 2 inbound, 3 codes, 4 tracks, 5 places, 6 card.
     ListOrBufferWrong,
-    /// 5: fewest steps above the limit. A: fewest steps (may exceed 8).
+    /// 5: fewest steps above the limit. A: fewest steps (may exceed 16).
     LimitTooLow,
     /// 6: a track overfilled. A: first such step, B: its cars.
     TrackOverfilled,
@@ -26,7 +26,7 @@ pub enum Kind {
     TrainsOutOfOrder,
     /// 10: card too short. A: bytes needed, as far as known.
     CardTooShort,
-    /// 11: card edition not 1. A: edition.
+    /// 11: card edition not 1 or 2. A: edition.
     CardEdition,
     /// 12: non-zero padding, or bytes after the end. A: the card's right length.
     CardEndWrong,
@@ -34,6 +34,8 @@ pub enum Kind {
     TimingNotAllowed,
     /// 14: a zero code in a closed night. A: first such car.
     ZeroCode,
+    /// 17: wrong edition for this plan.
+    WrongEdition,
     /// Any other: a number the paper does not have.
     Unknown,
 }
@@ -55,6 +57,7 @@ pub(crate) fn kind(number: usize) -> Kind {
         12 => Kind::CardEndWrong,
         13 => Kind::TimingNotAllowed,
         14 => Kind::ZeroCode,
+        17 => Kind::WrongEdition,
         _ => Kind::Unknown,
     }
 }
@@ -73,10 +76,11 @@ pub(crate) fn words(number: usize) -> &'static str {
         8 => "a car pulled early",
         9 => "trains out of order",
         10 => "card too short",
-        11 => "card edition not 1",
+        11 => "card edition not 1 or 2",
         12 => "non-zero padding, or bytes after the end",
         13 => "a timing not allowed",
         14 => "a zero code in a closed night",
+        17 => "wrong edition for this plan",
         _ => "a number the paper does not have",
     }
 }
@@ -112,6 +116,7 @@ pub(crate) fn details(number: usize, a: usize, b: usize) -> String {
         (13, 1, _) => "pull".to_string(),
         (13, 2, _) => "push".to_string(),
         (14, _, _) => format!("car {a}"),
+        (17, _, _) => "the plan belongs on a card of edition 1".to_string(),
         _ => format!("A {a}, B {b}"),
     }
 }

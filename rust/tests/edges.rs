@@ -1,7 +1,11 @@
 //! Inputs at the ends of what the types hold: none of them stops a call.
 
 use altairpeg::{check, derive, fewest_passes, price, read_card, replay, write_card};
-use altairpeg::{Kind, Mark, Night, Plan, Refusal, Timings, CARS, TRAINS};
+use altairpeg::{Kind, Mark, Night, Plan, Refusal, Timings};
+use altairpeg::{CARD_BYTES, CARS, PASSES, ROOM, STEPS, TRACKS, TRAINS};
+use altairpeg::{
+    FIRST_CARD_BYTES, FIRST_CARS, FIRST_ROOM, FIRST_STEPS, FIRST_TRACKS, FIRST_TRAINS,
+};
 
 const NIGHT: Night = Night {
     lengths: &[2],
@@ -25,11 +29,6 @@ fn refused(number: usize, a: usize) -> Refusal {
     Refusal { number, a, b: 0 }
 }
 
-/// The card of a plan of an open night.
-fn card(plan: Plan) -> Result<Vec<u8>, Refusal> {
-    write_card(plan.open().expect("an open night"))
-}
-
 /// What every call that takes a plan says of it, which must be the same, open or closed.
 fn all_refuse(plan: Plan, number: usize, a: usize) {
     for mark in MARKS {
@@ -37,8 +36,8 @@ fn all_refuse(plan: Plan, number: usize, a: usize) {
         let plan = Plan { night, ..plan };
         assert_eq!(check(plan), Err(refused(number, a)));
         assert_eq!(replay(plan, 0), Err(refused(number, a)));
+        assert_eq!(write_card(plan), Err(refused(number, a)));
     }
-    assert_eq!(card(plan), Err(refused(number, a)));
 }
 
 /// What the calls that find codes for a night say of it, which must be the same, open or closed.
@@ -52,13 +51,13 @@ fn derive_refuses(night: Night, steps: usize, number: usize, a: usize) {
 
 /// What the calls that take a night, alone or in a plan, say of it.
 fn all_refuse_night(night: Night, number: usize, a: usize) {
-    derive_refuses(night, 8, number, a);
+    derive_refuses(night, FIRST_STEPS, number, a);
     all_refuse(Plan { night, ..PLAN }, number, a);
 }
 
 #[test]
 fn counts_of_every_size() {
-    for count in [0, 9, 513, 1 << 16, (1 << 32) + 2, usize::MAX] {
+    for count in [0, TRACKS + 1, 1 << 16, (1 << 32) + 2, usize::MAX] {
         all_refuse_night(
             Night {
                 tracks: count,
@@ -68,7 +67,7 @@ fn counts_of_every_size() {
             3,
         );
     }
-    for count in [0, 513, 1 << 16, (1 << 32) + 2, usize::MAX] {
+    for count in [0, ROOM + 1, 1 << 16, (1 << 32) + 2, usize::MAX] {
         all_refuse_night(
             Night {
                 room: count,
@@ -78,7 +77,7 @@ fn counts_of_every_size() {
             4,
         );
     }
-    for count in [9, 513, 1 << 16, (1 << 32) + 1, usize::MAX] {
+    for count in [STEPS + 1, 1 << 16, (1 << 32) + 1, usize::MAX] {
         all_refuse(
             Plan {
                 steps: count,
@@ -91,7 +90,7 @@ fn counts_of_every_size() {
         assert_eq!(replay(PLAN, count), Err(refused(1, 6)));
         assert_eq!(price(count, 0, TIMINGS), Err(refused(1, 5)));
     }
-    for count in [4609, 1 << 16, (1 << 32) + 1, usize::MAX] {
+    for count in [PASSES + 1, 1 << 17, (1 << 32) + 1, usize::MAX] {
         assert_eq!(price(0, count, TIMINGS), Err(refused(1, 7)));
     }
 }
@@ -150,40 +149,135 @@ fn lists_that_are_too_long() {
         4,
         3,
     );
-    let mut bytes = card(PLAN).unwrap();
+    let mut bytes = write_card(PLAN).unwrap();
     let length = bytes.len();
     bytes.resize(1 << 20, 0);
     assert_eq!(read_card(&bytes), Err(refused(12, length)));
 }
 
-#[test]
-fn the_largest_night() {
-    let cars: Vec<u16> = (1..=CARS as u16).collect();
-    let lengths = [8; TRAINS];
-    let open = Night {
-        lengths: &lengths,
-        inbound: &cars,
-        tracks: 8,
-        room: 512,
-        mark: Mark::Open,
-    };
+/// The cars of a night in the order of their trains.
+fn in_order(cars: usize) -> Vec<u16> {
+    (1..=cars as u16).collect()
+}
+
+/// A night whose cars come in in order, and the same night closed, each with its fewest steps.
+fn open_and_closed(night: Night) -> [(Night, usize); 2] {
     let closed = Night {
         mark: Mark::Closed,
-        ..open
+        ..night
     };
-    for (night, steps) in [(open, 0), (closed, 1)] {
-        let derived = derive(night, steps).unwrap();
-        assert_eq!((derived.steps, derived.passes), (steps, (steps + 1) * CARS));
-        assert_eq!(derived.codes, [steps as u16; CARS]);
-        assert!(check(derived.plan(night)).is_ok());
-        assert_eq!(fewest_passes(night, steps).unwrap(), derived);
-        let most = fewest_passes(night, 8).unwrap();
-        assert_eq!((most.steps, most.passes), (8, derived.passes));
-        assert_eq!(most.codes, derived.codes);
+    [(night, 0), (closed, 1)]
+}
+
+/// What is derived of a night whose cars come in in order, and written on its card and read.
+fn all_the_same_code(night: Night, steps: usize) {
+    let cars = night.inbound.len();
+    let derived = derive(night, steps).unwrap();
+    assert_eq!((derived.steps, derived.passes), (steps, (steps + 1) * cars));
+    assert_eq!(derived.codes, vec![steps as u16; cars]);
+    assert!(check(derived.plan(night)).is_ok());
+    let bytes = write_card(derived.plan(night)).unwrap();
+    assert_eq!(read_card(&bytes).unwrap().plan(), derived.plan(night));
+}
+
+#[test]
+fn the_largest_night() {
+    let cars = in_order(CARS);
+    let night = Night {
+        lengths: &[(CARS / TRAINS) as u16; TRAINS],
+        inbound: &cars,
+        tracks: TRACKS,
+        room: ROOM,
+        mark: Mark::Open,
+    };
+    for (night, steps) in open_and_closed(night) {
+        all_the_same_code(night, steps);
+        assert_eq!(fewest_passes(night, steps), Err(refused(1, 1)));
     }
-    let derived = derive(open, 0).unwrap();
-    let bytes = card(derived.plan(open)).unwrap();
-    assert_eq!(read_card(&bytes).unwrap().plan(), derived.plan(open));
+}
+
+#[test]
+fn the_largest_night_of_edition_1_and_of_the_fewest_passes() {
+    let cars = in_order(FIRST_CARS);
+    let night = Night {
+        lengths: &[(FIRST_CARS / FIRST_TRAINS) as u16; FIRST_TRAINS],
+        inbound: &cars,
+        tracks: FIRST_TRACKS,
+        room: FIRST_ROOM,
+        mark: Mark::Open,
+    };
+    for (night, steps) in open_and_closed(night) {
+        all_the_same_code(night, steps);
+        let derived = derive(night, steps).unwrap();
+        assert_eq!(fewest_passes(night, steps).unwrap(), derived);
+        let most = fewest_passes(night, FIRST_STEPS).unwrap();
+        assert_eq!((most.steps, most.passes), (FIRST_STEPS, derived.passes));
+        assert_eq!(most.codes, derived.codes);
+        assert_eq!(fewest_passes(night, FIRST_STEPS + 1), Err(refused(1, 5)));
+    }
+}
+
+/// The card of an open night with all its steps, in each of which every car is pulled.
+fn fullest_card(lengths: &[u16], inbound: &[u16], steps: usize, room: usize) -> Vec<u8> {
+    let night = Night {
+        lengths,
+        inbound,
+        tracks: steps,
+        room,
+        mark: Mark::Open,
+    };
+    let codes = &vec![u16::MAX >> (STEPS - steps); inbound.len()];
+    let plan = Plan {
+        night,
+        steps,
+        codes,
+    };
+    let bytes = write_card(plan).unwrap();
+    assert_eq!(read_card(&bytes).unwrap().plan(), plan);
+    bytes
+}
+
+#[test]
+fn the_longest_cards() {
+    let cars = in_order(CARS);
+    let first = fullest_card(
+        &[8; FIRST_TRAINS],
+        &cars[..FIRST_CARS],
+        FIRST_STEPS,
+        FIRST_ROOM,
+    );
+    assert_eq!((first.len(), first[0] >> 4), (FIRST_CARD_BYTES, 1));
+    let second = fullest_card(&[16; TRAINS], &cars, STEPS, ROOM);
+    assert_eq!((second.len(), second[0] >> 4), (CARD_BYTES, 2));
+}
+
+#[test]
+fn the_fewest_passes_keep_the_first_limits() {
+    let refuses = |night, steps, a| assert_eq!(fewest_passes(night, steps), Err(refused(1, a)));
+    let (cars, ones) = (in_order(FIRST_CARS + 1), [1; FIRST_TRAINS + 1]);
+    let tracks = FIRST_TRACKS + 1;
+    let room = FIRST_ROOM + 1;
+    refuses(
+        Night {
+            lengths: &[FIRST_CARS as u16 + 1],
+            inbound: &cars,
+            ..NIGHT
+        },
+        1,
+        1,
+    );
+    refuses(
+        Night {
+            lengths: &ones,
+            inbound: &cars[..ones.len()],
+            ..NIGHT
+        },
+        1,
+        2,
+    );
+    refuses(Night { tracks, ..NIGHT }, 1, 3);
+    refuses(Night { room, ..NIGHT }, 1, 4);
+    refuses(NIGHT, FIRST_STEPS + 1, 5);
 }
 
 #[test]
@@ -249,7 +343,7 @@ fn timings_that_are_none() {
             Err(refused(13, 2))
         );
     }
-    assert_eq!(price(8, 4608, TIMINGS), Ok(4608.0 * 4096.0));
+    assert_eq!(price(STEPS, PASSES, TIMINGS), Ok(69632.0 * 4096.0));
 }
 
 #[test]

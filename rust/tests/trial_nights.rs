@@ -1,7 +1,8 @@
-//! The trial nights of document 01, each under its number, closed nights, and the fewest passes, through the archive.
+//! The trial nights of document 01, each under its number, closed nights, bigger nights, both editions of cards, and
+//! the fewest passes, through the archive.
 
-use altairpeg::{check, derive, fewest_passes, read_card, replay, write_card};
-use altairpeg::{Checked, Kind, Mark, Night, Plan, Refusal};
+use altairpeg::{check, derive, fewest_passes, fewest_tracks, read_card, replay, write_card};
+use altairpeg::{Checked, Kind, Mark, Night, Plan, Refusal, STEPS};
 
 const N: [u16; 6] = [3, 6, 1, 5, 2, 4];
 
@@ -39,7 +40,7 @@ fn refused(number: usize, a: usize, b: usize) -> Refusal {
 }
 
 fn steps(night: Night) -> usize {
-    derive(night, 8).expect("derived").steps
+    derive(night, STEPS).expect("derived").steps
 }
 
 #[test]
@@ -167,9 +168,7 @@ fn the_card_of_case_1_there_and_back() {
     assert_eq!(card.inbound, N);
     assert_eq!((card.steps, card.tracks, card.room), (2, 2, 3));
     assert_eq!(card.mark, Mark::Open);
-    let plan = card.plan().open().unwrap();
-    assert_eq!(plan.plan(), card.plan());
-    assert_eq!(write_card(plan).unwrap(), bytes);
+    assert_eq!(write_card(card.plan()).unwrap(), bytes);
     assert_eq!(read_card(&[]), Err(refused(10, 1, 0)));
     assert_eq!(read_card(&bytes[..15]), Err(refused(10, 16, 0)));
 }
@@ -290,12 +289,78 @@ fn a_zero_code_comes_after_a_code_too_large_and_before_an_early_pull() {
     refused_closed(early_alone, refused(8, 1, 0));
 }
 
+/// The card of closed night N with room for 4: edition 2, the mark, 3 steps, 2 tracks, room 4, 6 cars, 1 train.
+const CLOSED_CARD: [u8; 20] = [
+    0x28, 0xC4, 0x00, 0x40, 0x03, 0x00, 0x40, 0x0C, 0x00, 0x30, 0x03, 0x00, 0x04, 0x00, 0xA0, 0x02,
+    0x00, 0x21, 0x29, 0x3A,
+];
+
 #[test]
-fn only_the_plan_of_an_open_night_goes_on_a_card() {
+fn the_card_of_a_closed_night_there_and_back() {
     let night = closed(n(2, 4));
-    let derived = derive(night, 8).unwrap();
-    assert_eq!(derived.plan(night).open(), None);
-    assert!(derived.plan(n(2, 4)).open().is_some());
+    let derived = derive(night, STEPS).unwrap();
+    assert_eq!(write_card(derived.plan(night)).unwrap(), CLOSED_CARD);
+    let card = read_card(&CLOSED_CARD).unwrap();
+    assert_eq!(card.mark, Mark::Closed);
+    assert_eq!(card.plan(), derived.plan(night));
+    for length in 1..7 {
+        assert_eq!(read_card(&CLOSED_CARD[..length]), Err(refused(10, 7, 0)));
+    }
+    assert_eq!(read_card(&CLOSED_CARD[..19]), Err(refused(10, 20, 0)));
+    assert_eq!(read_card(&[0x30; 20]), Err(refused(11, 3, 0)));
+}
+
+#[test]
+fn a_plan_of_edition_1_on_a_card_of_edition_2() {
+    let mut bytes = CLOSED_CARD;
+    bytes[0] &= !0x08; // the mark
+    let wrong = read_card(&bytes).unwrap_err();
+    assert_eq!(wrong, refused(17, 0, 0));
+    assert_eq!(wrong.kind(), Kind::WrongEdition);
+    assert_eq!(
+        wrong.to_string(),
+        "refused 17 0 0: wrong edition for this plan (the plan belongs on a card of edition 1)"
+    );
+    bytes[19] |= 1; // a bit of padding
+    assert_eq!(read_card(&bytes), Err(refused(12, 20, 0)));
+}
+
+#[test]
+fn nine_steps() {
+    let inbound = reversed(257);
+    let night = night(&[257], &inbound, 9, 512);
+    let derived = derive(night, STEPS).unwrap();
+    assert_eq!((derived.steps, derived.codes[256]), (9, 256));
+    assert!(check(derived.plan(night)).is_ok());
+    assert_eq!(
+        replay(derived.plan(night), 9).unwrap().cars_on(9).len(),
+        257
+    );
+    assert_eq!(derive(night, 8), Err(refused(5, 9, 0)));
+    let bytes = write_card(derived.plan(night)).unwrap();
+    assert_eq!(bytes[0] >> 4, 2);
+    assert_eq!(read_card(&bytes).unwrap().plan(), derived.plan(night));
+}
+
+#[test]
+fn four_thousand_cars_reversed() {
+    let inbound = reversed(4096);
+    let night = night(&[4096], &inbound, 16, 4096);
+    let derived = derive(night, STEPS).unwrap();
+    assert_eq!((derived.steps, derived.passes), (12, 4096 + 6 * 4096));
+    assert!(derived.codes.iter().copied().eq(0..4096));
+    assert_eq!(check(derived.plan(night)).unwrap().fullest_pull, 2048);
+    let narrow = Night { tracks: 1, ..night };
+    assert_eq!(derive(narrow, STEPS), Err(refused(5, 4095, 0)));
+}
+
+#[test]
+fn the_fewest_tracks_of_codes_above_a_byte() {
+    for bit in 0..16 {
+        assert_eq!(fewest_tracks(1 << bit), bit + 1);
+        assert_eq!(fewest_tracks(1 | 1 << bit), bit.max(1));
+    }
+    assert_eq!(fewest_tracks(u16::MAX), 1);
 }
 
 #[test]

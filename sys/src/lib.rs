@@ -6,15 +6,36 @@
 #![warn(missing_docs)]
 
 /// The most cars of a night.
-pub const CARS: usize = 512;
+pub const CARS: usize = 4096;
 /// The most trains of a night.
-pub const TRAINS: usize = 64;
+pub const TRAINS: usize = 256;
+/// The most sorting tracks of a night.
+pub const TRACKS: usize = 16;
+/// The most cars for which a sorting track has room.
+pub const ROOM: usize = 4096;
+/// The most steps of a plan, and the highest step limit.
+pub const STEPS: usize = 16;
+/// The most passes that are priced.
+pub const PASSES: usize = 69632;
 /// The bytes of the longest card.
-pub const CARD_BYTES: usize = 1237;
+pub const CARD_BYTES: usize = 15271;
+
+/// The most cars on a card of edition 1, and for the fewest passes.
+pub const FIRST_CARS: usize = 512;
+/// The most trains on a card of edition 1, and for the fewest passes.
+pub const FIRST_TRAINS: usize = 64;
+/// The most sorting tracks on a card of edition 1, and for the fewest passes.
+pub const FIRST_TRACKS: usize = 8;
+/// The most room on a card of edition 1, and for the fewest passes.
+pub const FIRST_ROOM: usize = 512;
+/// The most steps on a card of edition 1, and for the fewest passes.
+pub const FIRST_STEPS: usize = 8;
+/// The bytes of the longest card of edition 1.
+pub const FIRST_CARD_BYTES: usize = 1237;
 
 /// A night's mark: whether cars may roll to the destination tracks from the start.
 ///
-/// It has no default: most yards are closed by day, every card so far is open, so the caller says which.
+/// It has no default: most yards are closed by day, every card of edition 1 is open, so the caller says which.
 #[derive(Clone, Copy, Debug, PartialEq, Eq, Hash)]
 pub enum Mark {
     /// The destination tracks take cars from the first roll-in on.
@@ -52,9 +73,9 @@ pub struct Night<'a> {
     pub lengths: &'a [u16],
     /// The cars, from 1, in the order in which they come in; the list sets how many there are.
     pub inbound: &'a [u16],
-    /// The sorting tracks, 1 to 8.
+    /// The sorting tracks, 1 to 16.
     pub tracks: usize,
-    /// The cars for which a sorting track has room, 1 to 512.
+    /// The cars for which a sorting track has room, 1 to 4096.
     pub room: usize,
     /// Whether the destination tracks are open, or closed until the first pull.
     pub mark: Mark,
@@ -65,33 +86,10 @@ pub struct Night<'a> {
 pub struct Plan<'a> {
     /// The night that is sorted.
     pub night: Night<'a>,
-    /// The steps, 0 to 8.
+    /// The steps, 0 to 16.
     pub steps: usize,
     /// The codes: bit k set means that the car is pulled in step k.
     pub codes: &'a [u16],
-}
-
-impl<'a> Plan<'a> {
-    /// The plan as one of an open night, or nothing where its night is closed.
-    #[inline]
-    pub fn open(self) -> Option<OpenPlan<'a>> {
-        match self.night.mark {
-            Mark::Open => Some(OpenPlan(self)),
-            Mark::Closed => None,
-        }
-    }
-}
-
-/// A plan of an open night, made by [`Plan::open`]: what a card of edition 1 holds.
-#[derive(Clone, Copy, Debug, PartialEq, Eq)]
-pub struct OpenPlan<'a>(Plan<'a>);
-
-impl<'a> OpenPlan<'a> {
-    /// The plan.
-    #[inline]
-    pub fn plan(self) -> Plan<'a> {
-        self.0
-    }
 }
 
 /// The counts of a call that no list sets: the sorting tracks, the room on each, and the steps of a
@@ -132,7 +130,7 @@ pub struct Answer {
 pub struct CardAnswer {
     /// The number and its details.
     pub answer: Answer,
-    /// The number of the card's mark, for [`Mark::of`]; edition 1 means open.
+    /// The number of the card's mark, for [`Mark::of`]; a card of edition 1 is open.
     pub mark: usize,
     /// The card's steps.
     pub steps: usize,
@@ -234,12 +232,13 @@ mod raw {
             inbound_len: usize,
             codes: *const u16,
             codes_len: usize,
+            mark: usize,
             counts: Counts,
             card: *mut u8,
             card_len: usize,
         ) -> Answer;
         pub fn altairpeg_price(steps: usize, passes: usize, timings: Timings) -> PriceAnswer;
-        pub fn altairpeg_fewest_tracks(code: u8) -> usize;
+        pub fn altairpeg_fewest_tracks(code: u16) -> usize;
     }
 }
 
@@ -268,7 +267,8 @@ pub fn derive(night: Night, limit: usize, codes: &mut [u16]) -> Answer {
         writes [codes])
 }
 
-/// Finds the codes of a night and a given number of steps with the fewest passes.
+/// Finds the codes of a night and a given number of steps with the fewest passes; the night and the
+/// steps keep the first ranges, up to [`FIRST_CARS`] cars, and so on.
 #[inline]
 pub fn fewest_passes(night: Night, steps: usize, codes: &mut [u16]) -> Answer {
     call!(altairpeg_fewest_passes
@@ -295,7 +295,7 @@ pub fn replay(plan: Plan, stage: usize, on: &mut [u16], at: &mut [u16]) -> Answe
         writes [on, at])
 }
 
-/// Reads a night card.
+/// Reads a night card of edition 1 or 2.
 #[inline]
 pub fn read(
     card: &[u8],
@@ -306,13 +306,12 @@ pub fn read(
     call!(altairpeg_read reads [card] counts [] writes [lengths, inbound, codes])
 }
 
-/// Writes the night card of a plan of an open night: a closed one goes on no card yet.
+/// Writes the night card of a plan: edition 1 where that can hold it, else edition 2.
 #[inline]
-pub fn write(plan: OpenPlan, card: &mut [u8]) -> Answer {
-    let plan = plan.plan();
+pub fn write(plan: Plan, card: &mut [u8]) -> Answer {
     call!(altairpeg_write
         reads [plan.night.lengths, plan.night.inbound, plan.codes]
-        counts [Counts::of(plan.night, plan.steps)]
+        counts [plan.night.mark.number(), Counts::of(plan.night, plan.steps)]
         writes [card])
 }
 
@@ -322,8 +321,8 @@ pub fn price(steps: usize, passes: usize, timings: Timings) -> PriceAnswer {
     call!(altairpeg_price reads [] counts [steps, passes, timings] writes [])
 }
 
-/// The fewest tracks on which a car with this code is never pulled early.
+/// The fewest tracks, 1 to 16, on which a car with this code is never pulled early.
 #[inline]
-pub fn fewest_tracks(code: u8) -> usize {
+pub fn fewest_tracks(code: u16) -> usize {
     call!(altairpeg_fewest_tracks reads [] counts [code] writes [])
 }

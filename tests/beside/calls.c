@@ -26,7 +26,8 @@ static struct marked closed(const struct night *n) {
 }
 
 static struct told derive_as(struct night *n, size_t mark) {
-    return told(altairpeg_derive(n->lengths, n->trains, n->inbound, n->cars, mark, counts(n, 8), n->codes_out, n->cars));
+    return told(altairpeg_derive(n->lengths, n->trains, n->inbound, n->cars, mark, counts(n, n->limit), n->codes_out,
+                                 n->cars));
 }
 
 static struct told check_as(struct night *n, struct marked plan) {
@@ -64,10 +65,10 @@ static struct told replay_closed(struct night *n) {
     return replay_as(n, closed(n));
 }
 
-/* With the most steps there are the most codes to choose from, and each night has codes of eight steps. */
+/* With the most steps there are the most codes to choose from, and each night that it takes has codes of eight steps. */
 static struct told fewest_passes(struct night *n) {
     return told(altairpeg_fewest_passes(n->lengths, n->trains, n->inbound, n->cars, ALTAIRPEG_OPEN,
-                                        counts(n, ALTAIRPEG_STEPS), n->codes_out, n->cars));
+                                        counts(n, ALTAIRPEG_FIRST_STEPS), n->codes_out, n->cars));
 }
 
 static struct told read(struct night *n) {
@@ -77,8 +78,8 @@ static struct told read(struct night *n) {
 }
 
 static struct told write(struct night *n) {
-    return told(altairpeg_write(n->lengths, n->trains, n->inbound, n->cars, n->codes, n->cars, counts(n, n->steps),
-                                n->card_out, CARD));
+    return told(altairpeg_write(n->lengths, n->trains, n->inbound, n->cars, n->codes, n->cars, ALTAIRPEG_OPEN,
+                                counts(n, n->steps), n->card_out, CARD));
 }
 
 /* The tests of the counts, the train lengths and the inbound list alone: no code is given, which is refused by 4 behind them. */
@@ -89,4 +90,5 @@ static struct told lists(struct night *n) {
 }
 
 calls_of_a_night *const calls[CALLS] = {
-    derive, check, replay, read, write, lists, derive_closed, check_closed, replay_closed, fewest_passes};
+    derive, check, replay, read, write, lists, derive_closed, check_closed, replay_closed, fewest_passes,
+    derive, check, replay, read, write, lists, derive_closed, check_closed, replay_closed, NULL};

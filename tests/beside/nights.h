@@ -4,7 +4,7 @@
 #include "night.h"
 #include <string.h>
 
-static const char *const NAMES[CALLS] = {"derive", "check", "replay", "read", "write", "lists",
+static const char *const NAMES[KINDS] = {"derive", "check", "replay", "read", "write", "lists",
                                          "derive-closed", "check-closed", "replay-closed", "fewest-passes"};
 static uint64_t state = 88172645463325252u;
 
@@ -25,13 +25,25 @@ static void shuffle(uint16_t *list, size_t n) {
     }
 }
 
-/* A night of up to eight trains on three to eight tracks; nothing says yet that eight steps do. */
+/* Whether a night has more cars than every edition takes. */
+static int is_bigger(size_t cars) {
+    return cars > FIRST_CARS;
+}
+
+/* The calls for nights of so many cars: where they begin in the table. */
+static int kinds_for(size_t cars) {
+    return is_bigger(cars) ? KINDS : 0;
+}
+
+/* A night of up to eight trains on three to eight tracks, or a bigger one of up to 256 on three to sixteen; nothing says
+   yet that its limit of steps will do. */
 static void any_night(struct night *n, size_t cars) {
     memset(n, 0, sizeof *n);
     n->cars = cars;
-    n->trains = 1 + below(8);
-    n->tracks = 3 + below(6);
-    n->room = CARS;
+    n->trains = 1 + below(is_bigger(cars) ? TRAINS : 8);
+    n->tracks = 3 + below((is_bigger(cars) ? TRACKS : FIRST_TRACKS) - 2);
+    n->room = is_bigger(cars) ? CARS : FIRST_CARS;
+    n->limit = is_bigger(cars) ? STEPS : FIRST_STEPS;
     for (size_t i = 0; i < cars; i++) {
         n->lengths[i < n->trains ? i : below(n->trains)]++;
         n->inbound[i] = (uint16_t)(i + 1);
@@ -62,7 +74,7 @@ static int planned_closed(struct night *n) {
     return calls[CHECK_CLOSED](n).number == 0;
 }
 
-/* A night of so many cars for which plans of eight steps are found, open and closed. */
+/* A night of so many cars for which plans within its limit are found, open and closed. */
 static void planned_night(struct night *n, size_t cars) {
     do any_night(n, cars);
     while (!planned(n) || !planned_closed(n));

@@ -4,7 +4,7 @@
 #include <stdio.h>
 #include <ucontext.h>
 
-enum { STACK = 65536, PAINT = 0xa5, TURNS = 400 };
+enum { STACK = 262144, PAINT = 0xa5, TURNS = 400 };
 
 static uint8_t stack[STACK] __attribute__((aligned(64)));
 static ucontext_t outside, inside;
@@ -34,17 +34,25 @@ static size_t taken(calls_of_a_night *call) {
     return STACK - left;
 }
 
-int main(void) {
+/* A row for each call that takes nights of up to so many cars and more than the fewest. */
+static void rows(size_t fewest, size_t cars) {
     size_t most[CALLS] = {0};
+    int first = kinds_for(cars);
+    if (!calls[first + DERIVE]) return;
     for (int turn = 0; turn < TURNS; turn++) {
-        planned_night(&night, turn == 0 ? CARS : 1 + below(CARS));
-        for (int call = 0; call < CALLS; call++) {
+        planned_night(&night, turn == 0 ? cars : fewest + 1 + below(cars - fewest));
+        for (int call = first; call < first + KINDS; call++) {
             if (!calls[call]) continue;
             size_t bytes = taken(calls[call]) - taken(nothing);
             if (bytes > most[call]) most[call] = bytes;
         }
     }
-    for (int call = 0; call < CALLS; call++)
-        if (calls[call]) printf("| %s | %zu |\n", NAMES[call], most[call]);
+    for (int call = first; call < first + KINDS; call++)
+        if (calls[call]) printf("| %s | %zu | %zu |\n", NAMES[call % KINDS], cars, most[call]);
+}
+
+int main(void) {
+    rows(0, FIRST_CARS);
+    rows(FIRST_CARS, CARS);
     return 0;
 }

@@ -10,6 +10,6 @@ cp "$edition/tests/beside/calls.c" "$folder/own.c"
 # What memcpy and memset are is settled before the program runs: done at the first call of one, it would count as that call's stack.
 gcc -O2 -Wall -Wextra -Wl,-z,now -I "$edition/include" -I tests/beside -o "$folder/stack" \
     tests/beside/stack.c "$folder/own.c" "$edition/target/staticlib/libaltairpeg.a"
-echo '| call | bytes of stack |'
-echo '|---|---|'
+echo '| call | cars | bytes of stack |'
+echo '|---|---|---|'
 "$folder/stack"
