@@ -14,6 +14,13 @@ impl Packer {
         }
     }
 
+    /// Lays down so many bits of each number.
+    pub fn put_all(&mut self, numbers: &[u16], width: usize) {
+        for &number in numbers {
+            self.put(usize::from(number), width);
+        }
+    }
+
     /// The bytes, with zero bits up to the end of the last one.
     pub fn bytes(&self) -> Vec<u8> {
         let mut bytes = Vec::new();

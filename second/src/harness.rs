@@ -2,11 +2,13 @@
 //! compares every answer, every item written and every item that must stay.
 
 use crate::answers::{Answer, CardAnswer, Refusal, Timings};
+use crate::cards::{self, CardBuffers};
+use crate::counts::MOST;
 use crate::random::Random;
-use crate::reference::{self, CardBuffers, Derived};
-use crate::steps;
-use crate::tally::{Call, Detail, Tally};
-use crate::{Calls, Night, OpenPlan, Plan};
+use crate::reference::{self, Derived};
+use crate::steps::usable_tracks;
+use crate::tally::{Call, Detail, Edition, Tally};
+use crate::{Calls, Night, Plan};
 use std::fmt::Debug;
 
 /// Items that stand before and behind each lent list and that no call may touch.
@@ -269,22 +271,25 @@ pub fn compare_replay<C: Calls>(
 pub fn compare_write<C: Calls>(
     random: &mut Random,
     tally: &mut Tally,
-    open: OpenPlan,
+    plan: Plan,
     card_len: usize,
 ) -> Result<(), String> {
-    let plan = open.plan();
     let lent = LentPlan::of(random, plan.night, plan.codes);
     let mut card = Lent::blank(card_len, || random.bits() as u8);
-    let outcome = reference::write(open, card_len);
+    let outcome = cards::write(plan, card_len);
     let written = outcome.as_ref().map_or(&[][..], |bytes| bytes);
     let wanted = Outcome {
         answer: reference::write_answer(&outcome),
         lists: lent.items(),
         card: card.after_writing(written),
     };
-    count(tally, Call::Write, wanted.answer);
+    let call = Call::Write(plan.night.mark);
+    match &outcome {
+        Ok(bytes) => tally.count_detail(call, 0, Detail::DoneOn(Edition::of(bytes))),
+        Err(_) => count(tally, call, wanted.answer),
+    }
     let got = Outcome {
-        answer: C::write(lent.plan(plan).opened(), card.part_mut()).into(),
+        answer: C::write(lent.plan(plan), card.part_mut()).into(),
         lists: lent.items(),
         card: card.whole,
     };
@@ -302,7 +307,7 @@ pub fn compare_read<C: Calls>(
     let mut lengths = Lent::blank(buffers.lengths, || random.bits() as u16);
     let mut inbound = Lent::blank(buffers.inbound, || random.bits() as u16);
     let mut codes = Lent::blank(buffers.codes, || random.bits() as u16);
-    let outcome = reference::read(bytes, buffers);
+    let outcome = cards::read(bytes, buffers);
     let written = match &outcome {
         Ok(card) => [&card.lengths[..], &card.inbound, &card.codes],
         Err(_) => [&[][..]; 3],
@@ -316,8 +321,12 @@ pub fn compare_read<C: Calls>(
         ],
         card: card.whole.clone(),
     };
+    let call = Call::Read(Edition::of(bytes));
     let CardAnswer { number, a, b, .. } = wanted.answer;
-    tally.count(Call::Read, number, a, b);
+    match &outcome {
+        Ok(card) => tally.count_detail(call, 0, Detail::DoneWith(card.mark)),
+        Err(_) => tally.count(call, number, a, b),
+    }
     let answer = C::read(
         card.part(),
         lengths.part_mut(),
@@ -365,23 +374,20 @@ pub fn compare_price<C: Calls>(
     judge(C::NAME, input, wanted, got)
 }
 
-pub fn compare_fewest_tracks<C: Calls>(tally: &mut Tally, code: u8) -> Result<(), String> {
-    let tracks = steps::fewest_tracks(code);
-    tally.count_detail(Call::FewestTracks, 0, Detail::Exactly(tracks));
+/// A code must be usable on just those numbers of tracks that are at least the fewest which a call tells.
+pub fn compare_fewest_tracks<C: Calls>(tally: &mut Tally, code: u16) -> Result<(), String> {
+    let usable = usable_tracks(code);
+    tally.count_detail(Call::FewestTracks, 0, Detail::Exactly(usable[0]));
     let wanted = Outcome {
-        answer: tracks,
+        answer: usable,
         lists: Vec::new(),
         card: Vec::new(),
     };
     let got = Outcome {
-        answer: C::fewest_tracks(code),
+        answer: (C::fewest_tracks(code)..=MOST.tracks).collect(),
         lists: Vec::new(),
         card: Vec::new(),
     };
-    judge(
-        C::NAME,
-        || format!("fewest tracks of code {code}"),
-        wanted,
-        got,
-    )
+    let input = || format!("tracks on which code {code} is usable");
+    judge(C::NAME, input, wanted, got)
 }

@@ -3,7 +3,10 @@
 
 pub mod answers;
 pub mod arguments;
+pub mod big_nights;
 pub mod bits;
+pub mod cards;
+pub mod counts;
 pub mod harness;
 pub mod idiomatic;
 #[cfg(feature = "library")]
@@ -19,6 +22,7 @@ pub mod trials;
 pub mod yard;
 
 use answers::{Answer, CardAnswer, PriceAnswer, Timings};
+use counts::Counts;
 
 /// Whether the destination tracks are open from the first roll-in on, or closed until the first pull.
 /// It is as wide as the counts beside it, since a copy of a night that waits for one byte would be measured, too.
@@ -59,24 +63,25 @@ pub struct Plan<'a> {
     pub codes: &'a [u16],
 }
 
-impl<'a> Plan<'a> {
-    /// The same lists and counts with the destinations open, whatever the mark was.
-    #[inline]
-    pub fn opened(self) -> OpenPlan<'a> {
-        let mark = Mark::Open;
-        let night = Night { mark, ..self.night };
-        OpenPlan(Plan { night, ..self })
+impl Night<'_> {
+    /// All counts, with these steps, which may be a limit.
+    pub fn counts(self, steps: usize) -> Counts {
+        Counts {
+            cars: self.inbound.len(),
+            trains: self.lengths.len(),
+            tracks: self.tracks,
+            room: self.room,
+            steps,
+        }
     }
 }
 
-/// A plan of an open night, which is all that a card holds so far; [`Plan::opened`] makes it.
-#[derive(Clone, Copy, Debug)]
-pub struct OpenPlan<'a>(Plan<'a>);
-
-impl<'a> OpenPlan<'a> {
-    #[inline]
-    pub fn plan(self) -> Plan<'a> {
-        self.0
+impl<'a> Plan<'a> {
+    /// The same lists and counts with the destinations open, whatever the mark was.
+    pub fn opened(self) -> Plan<'a> {
+        let mark = Mark::Open;
+        let night = Night { mark, ..self.night };
+        Plan { night, ..self }
     }
 }
 
@@ -96,7 +101,7 @@ pub trait Calls {
         inbound: &mut [u16],
         codes: &mut [u16],
     ) -> Self::CardTold;
-    fn write(plan: OpenPlan, card: &mut [u8]) -> Self::Told;
+    fn write(plan: Plan, card: &mut [u8]) -> Self::Told;
     fn price(steps: usize, passes: usize, timings: Timings) -> PriceAnswer;
-    fn fewest_tracks(code: u8) -> usize;
+    fn fewest_tracks(code: u16) -> usize;
 }

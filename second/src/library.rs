@@ -1,7 +1,7 @@
 //! The library through its C interface, with its answers in the second program's own types.
 
 use crate::answers::{Answer, CardAnswer, PriceAnswer, Timings};
-use crate::{Calls, Mark, Night, OpenPlan, Plan};
+use crate::{Calls, Mark, Night, Plan};
 
 pub struct Library;
 
@@ -41,9 +41,8 @@ impl Calls for Library {
     }
 
     #[inline]
-    fn write(plan: OpenPlan, card: &mut [u8]) -> altairpeg_sys::Answer {
-        let lent = lent(plan.plan()).open();
-        altairpeg_sys::write(lent.expect("an open plan is lent as one"), card)
+    fn write(plan: Plan, card: &mut [u8]) -> altairpeg_sys::Answer {
+        altairpeg_sys::write(lent(plan), card)
     }
 
     fn price(steps: usize, passes: usize, timings: Timings) -> PriceAnswer {
@@ -57,7 +56,7 @@ impl Calls for Library {
         }
     }
 
-    fn fewest_tracks(code: u8) -> usize {
+    fn fewest_tracks(code: u16) -> usize {
         altairpeg_sys::fewest_tracks(code)
     }
 }

@@ -1,11 +1,12 @@
 //! Nights, plans, cards and timings, sound ones and damaged ones, from a seed.
 
 use crate::answers::Timings;
-use crate::bits::Packer;
+use crate::cards::{self, pack, pack_counts, write, Layout};
+use crate::counts::{Counts, FIRST, LONGEST_CARD, MOST};
 use crate::passes::go_car_by_car;
 use crate::random::Random;
-use crate::reference::{derive, write};
-use crate::steps::{breaks_before, kept_codes, two_to};
+use crate::reference::derive;
+use crate::steps::{all_codes, breaks_before, kept_codes};
 use crate::yard::{place_of, Replay};
 use crate::{Mark, Night, Plan, MARKS};
 
@@ -49,15 +50,20 @@ impl OwnPlan {
     }
 }
 
-/// A sound night of 1 to 512 cars, open or closed; most are short, since faults show there as well.
-pub fn any_night(random: &mut Random) -> OwnNight {
+/// The ranges of document 01, in which both kinds of card and every call are met, or those of bigger nights.
+pub fn any_ranges(random: &mut Random) -> Counts {
+    random.pick(&[FIRST, MOST])
+}
+
+/// A sound night within these ranges, open or closed; most are short, since faults show there as well.
+pub fn any_night(random: &mut Random, most: Counts) -> OwnNight {
     let mark = random.pick(&MARKS);
     if random.chance(5) {
         return heavy_night(random, mark);
     }
-    let cars = any_count(random);
-    let trains = any_trains(random, cars);
-    let mut night = night_of(random, mark, cars, trains);
+    let cars = any_count(random, most);
+    let trains = any_trains(random, cars, most);
+    let mut night = night_of(random, mark, cars, trains, most);
     if random.chance(30) {
         night.room = random.within(1..=cars);
     }
@@ -67,35 +73,36 @@ pub fn any_night(random: &mut Random) -> OwnNight {
 /// One train in which most cars share a code with one set bit, so that the step of this
 /// bit pulls the most cars, however late it comes.
 fn heavy_night(random: &mut Random, mark: Mark) -> OwnNight {
-    let step = random.below(8);
-    let tracks = random.within(step + 1..=8);
-    let usable = kept_codes(mark, tracks, 8);
-    let number = place_of(usable, two_to(step));
+    let step = random.below(FIRST.steps);
+    let tracks = random.within(step + 1..=FIRST.tracks);
+    let usable = kept_codes(mark, tracks, FIRST.steps);
+    let number = place_of(usable, 1 << step);
     let blocks = random.within(number + 1..=number + 10);
-    let cars = random.within(2 * blocks..=512);
+    let cars = random.within(2 * blocks..=FIRST.cars);
     let mut lengths = vec![1; blocks];
     lengths[number] += (cars - blocks) as u16;
-    let sorted: Vec<u16> = (1..=cars as u16).collect();
     OwnNight {
-        lengths: vec![cars as u16],
-        inbound: last_block_first(&sorted, &lengths),
         tracks,
-        room: 512,
+        room: FIRST.room,
         mark,
+        ..one_train(&lengths)
     }
 }
 
-fn any_count(random: &mut Random) -> usize {
-    match random.below(100) {
-        0..=44 => random.within(1..=8),
-        45..=79 => random.within(9..=64),
-        80..=97 => random.within(65..=512),
-        _ => 512,
+/// Some nights take the reference long, so that few of them are as long as they may be.
+fn any_count(random: &mut Random, most: Counts) -> usize {
+    match random.below(200) {
+        0..=89 => random.within(1..=8),
+        90..=159 => random.within(9..=64),
+        160..=195 => random.within(65..=FIRST.cars),
+        196 => random.within(FIRST.cars..=most.cars),
+        197 => most.cars,
+        _ => FIRST.cars,
     }
 }
 
-fn any_trains(random: &mut Random, cars: usize) -> usize {
-    let most = cars.min(64);
+fn any_trains(random: &mut Random, cars: usize, most: Counts) -> usize {
+    let most = cars.min(most.trains);
     match random.below(10) {
         0..=3 => 1,
         4..=6 => random.within(1..=most.min(4)),
@@ -105,12 +112,18 @@ fn any_trains(random: &mut Random, cars: usize) -> usize {
 }
 
 /// A sound night with this mark and these counts, any number of tracks and room for all cars.
-pub fn night_of(random: &mut Random, mark: Mark, cars: usize, trains: usize) -> OwnNight {
+pub fn night_of(
+    random: &mut Random,
+    mark: Mark,
+    cars: usize,
+    trains: usize,
+    most: Counts,
+) -> OwnNight {
     OwnNight {
         lengths: any_lengths(random, cars, trains),
         inbound: any_inbound(random, cars),
-        tracks: random.within(1..=8),
-        room: 512,
+        tracks: random.within(1..=most.tracks),
+        room: most.room,
         mark,
     }
 }
@@ -169,20 +182,53 @@ fn swapped(random: &mut Random, mut cars: Vec<u16>) -> Vec<u16> {
 
 /// Blocks of neighbouring cars, the last block in front, so that breaks are many and known.
 fn blocks_reversed(random: &mut Random, cars: &[u16]) -> Vec<u16> {
-    let count = random.within(1..=cars.len().min(300));
+    let few = random.within(1..=cars.len().min(300));
+    let count = match cars.len() > FIRST.cars && random.chance(50) {
+        true => random.within(few..=cars.len()),
+        false => few,
+    };
     let lengths = any_lengths(random, cars.len(), count);
     last_block_first(cars, &lengths)
 }
 
 /// An open night of one train with exactly so many breaks, on eight tracks with room for all cars.
 pub fn train_with_breaks(random: &mut Random, cars: usize, breaks: usize) -> OwnNight {
-    let sorted: Vec<u16> = (1..=cars as u16).collect();
-    let blocks = any_lengths(random, cars, breaks + 1);
     OwnNight {
-        lengths: vec![cars as u16],
-        inbound: last_block_first(&sorted, &blocks),
-        tracks: 8,
-        room: 512,
+        tracks: FIRST.tracks,
+        room: FIRST.room,
+        ..one_train(&any_lengths(random, cars, breaks + 1))
+    }
+}
+
+/// A night of one train of 4,096 cars on two tracks, in whose derived plan this step, at most step 13, pulls the most cars:
+/// about half of those that it pulls have either of two codes with no other set bit in common.
+pub fn late_heavy_train(mark: Mark, step: usize) -> OwnNight {
+    let usable = kept_codes(mark, 2, MOST.steps);
+    let every_other = |from: usize| (0..=from).rev().step_by(2).map(|bit| 1 << bit).sum::<u16>();
+    let last_bit = 1 << step;
+    let one = place_of(usable, every_other(step));
+    let other = place_of(usable, last_bit | every_other(step.saturating_sub(1)));
+    let mut blocks = vec![1; other + 1];
+    let half = (MOST.cars - blocks.len()) / 2;
+    blocks[one] += half as u16;
+    blocks[other] += half as u16;
+    OwnNight {
+        tracks: 2,
+        mark,
+        ..one_train(&blocks)
+    }
+}
+
+/// An open night of one train that comes in as blocks of these lengths, the last one first, on one track with room for
+/// all cars.
+pub fn one_train(blocks: &[u16]) -> OwnNight {
+    let cars = blocks.iter().sum();
+    let sorted: Vec<u16> = (1..=cars).collect();
+    OwnNight {
+        lengths: vec![cars],
+        inbound: last_block_first(&sorted, blocks),
+        tracks: 1,
+        room: MOST.room,
         mark: Mark::Open,
     }
 }
@@ -218,7 +264,7 @@ pub fn any_plan(random: &mut Random, night: &OwnNight) -> OwnPlan {
 /// The plan of these steps, or eight, with the fewest passes, or one with the lowest code for all cars where no
 /// codes build the trains.
 pub fn lightest_plan(night: &OwnNight, steps: usize) -> OwnPlan {
-    let steps = steps.min(8);
+    let steps = steps.min(FIRST.steps);
     let lowest = || vec![lowest_code(night.mark); night.inbound.len()];
     OwnPlan {
         night: night.clone(),
@@ -227,22 +273,28 @@ pub fn lightest_plan(night: &OwnNight, steps: usize) -> OwnPlan {
     }
 }
 
-/// The derived plan, or one with the lowest code for all cars where no eight steps are enough.
+/// The derived plan, or one with the lowest code for all cars where no sixteen steps are enough.
 pub fn derived_plan(night: &OwnNight) -> OwnPlan {
+    let lowest = || OwnPlan {
+        night: night.clone(),
+        steps: MOST.steps,
+        codes: vec![lowest_code(night.mark); night.inbound.len()],
+    };
+    derived_within(night, MOST.steps).unwrap_or_else(lowest)
+}
+
+/// The derived plan, if so many steps are enough; room aside.
+pub fn derived_within(night: &OwnNight, limit: usize) -> Option<OwnPlan> {
     let ample = Night {
-        room: 512,
+        room: MOST.room,
         ..night.lend()
     };
-    let cars = night.inbound.len();
-    let (steps, codes) = match derive(ample, 8, cars) {
-        Ok(derived) => (derived.steps, derived.codes),
-        Err(_) => (8, vec![lowest_code(night.mark); cars]),
-    };
-    OwnPlan {
+    let derived = derive(ample, limit, night.inbound.len()).ok()?;
+    Some(OwnPlan {
         night: night.clone(),
-        steps,
-        codes,
-    }
+        steps: derived.steps,
+        codes: derived.codes,
+    })
 }
 
 /// The lowest code that no barred destination turns away.
@@ -273,12 +325,19 @@ fn rising_plan(random: &mut Random, night: &OwnNight) -> OwnPlan {
 
 /// The same codes with more steps, in which no car is pulled.
 fn more_steps(random: &mut Random, mut plan: OwnPlan) -> OwnPlan {
-    plan.steps = random.within(plan.steps..=8);
+    let most = any_ranges(random).steps;
+    plan.steps = random.within(plan.steps..=most.max(plan.steps));
     plan
 }
 
+/// Up to eight steps, which a card of edition 1 may have, or up to sixteen.
+fn any_steps(random: &mut Random) -> usize {
+    let most = any_ranges(random).steps;
+    random.within(0..=most)
+}
+
 fn usable_plan(random: &mut Random, night: &OwnNight) -> OwnPlan {
-    let steps = random.within(0..=8);
+    let steps = any_steps(random);
     let usable = strewn_codes(random, night, steps);
     plan_with(night, steps, || random.pick(usable))
 }
@@ -305,7 +364,8 @@ fn flipped_plan(random: &mut Random, night: &OwnNight) -> OwnPlan {
 
 /// Usable codes on few tracks, but for one with a gap that a late step falls into.
 fn gapped_plan(random: &mut Random, night: &OwnNight) -> OwnPlan {
-    let steps = random.within(6..=8);
+    let most = any_ranges(random).steps;
+    let steps = random.within(most - 2..=most);
     let tracks = random.within(1..=3);
     let night = OwnNight {
         tracks,
@@ -320,12 +380,17 @@ fn gapped_plan(random: &mut Random, night: &OwnNight) -> OwnPlan {
 
 /// All bits but W neighbouring ones; the step of the lowest of these takes the car early.
 fn late_gap(random: &mut Random, tracks: usize, steps: usize) -> u16 {
-    let gap = (two_to(tracks) - 1) << random.below(steps - tracks);
-    (two_to(steps) - 1) & !gap
+    let gap = all_bits(tracks) << random.below(steps - tracks);
+    all_bits(steps) & !gap
+}
+
+/// The code of a car that is pulled in each of these steps.
+pub fn all_bits(steps: usize) -> u16 {
+    all_codes(steps).last().unwrap_or(0)
 }
 
 fn random_plan(random: &mut Random, night: &OwnNight) -> OwnPlan {
-    let steps = random.within(0..=8);
+    let steps = any_steps(random);
     plan_with(night, steps, || random.below(1 << steps) as u16)
 }
 
@@ -341,22 +406,30 @@ fn plan_with(night: &OwnNight, steps: usize, code: impl FnMut() -> u16) -> OwnPl
 /// A room within one car of what some step pulls, so that refusal 6 is just met or missed.
 pub fn tight_room(random: &mut Random, plan: &OwnPlan) -> usize {
     // With open destinations no code 0 ends the replay before its pulls.
-    let pulls = Replay::of(plan.lend().opened().plan()).pulls;
+    let pulls = Replay::of(plan.lend().opened()).pulls;
     if pulls.is_empty() {
-        return random.within(1..=512);
+        let most = any_ranges(random).room;
+        return random.within(1..=most);
     }
     let fullest = pulls.iter().copied().max().unwrap_or(0);
     let some = random.pick(&pulls);
     let cars = random.pick(&[fullest, some]);
-    (cars + 1).saturating_sub(random.below(3)).clamp(1, 512)
+    (cars + 1)
+        .saturating_sub(random.below(3))
+        .clamp(1, MOST.room)
 }
 
-/// A count that is out of every range, or looks like `count` in fewer bits.
+/// The ends of the ranges, and what lies just beyond them.
+const EDGES: [usize; 16] = [
+    8, 9, 16, 17, 64, 65, 256, 257, 512, 513, 4096, 4097, 4608, 4609, 69_632, 69_633,
+];
+
+/// A count that is out of its range in most cases, or looks like `count` in fewer bits.
 pub fn wild_count(random: &mut Random, count: usize) -> usize {
     let bits = random.pick(&[8, 16, 32, 63]);
     match random.below(6) {
         0 => 0,
-        1 => random.pick(&[9, 10, 64, 65, 512, 513, 1024, 4608, 4609]),
+        1 => random.pick(&EDGES),
         2 => usize::MAX - random.below(3),
         3 => count.wrapping_add(1 << bits),
         4 => count.wrapping_neg(),
@@ -372,12 +445,12 @@ pub fn damage_night(random: &mut Random, night: &mut OwnNight) {
         2 => damage_item(random, &mut night.lengths),
         3 => zero_item(random, &mut night.lengths),
         4 => move_length(random, &mut night.lengths),
-        5 => damage_length(random, &mut night.lengths, 64),
+        5 => damage_length(random, &mut night.lengths, |most| most.trains),
         6 => wrap_lengths(&mut night.lengths),
         7 => damage_item(random, &mut night.inbound),
         8 => zero_item(random, &mut night.inbound),
         9 => duplicate_item(random, &mut night.inbound),
-        10 => damage_length(random, &mut night.inbound, 512),
+        10 => damage_length(random, &mut night.inbound, |most| most.cars),
         11 => night.mark = random.pick(&MARKS),
         _ => put_beyond(random, &mut night.inbound),
     }
@@ -390,8 +463,8 @@ pub fn damage_codes(random: &mut Random, plan: &mut OwnPlan) {
         1 => flip_bit(random, &mut plan.codes),
         2 => set_too_large(random, plan),
         3 => duplicate_item(random, &mut plan.codes),
-        4 => damage_length(random, &mut plan.codes, 512),
-        5 => plan.steps = random.below(9),
+        4 => damage_length(random, &mut plan.codes, |most| most.cars),
+        5 => plan.steps = any_steps(random),
         6 => zero_item(random, &mut plan.codes),
         _ => plan.steps = wild_count(random, plan.steps),
     }
@@ -462,8 +535,8 @@ fn wrap_lengths(lengths: &mut Vec<u16>) {
     }
 }
 
-/// One item short or long, empty, or just beyond the most that is allowed.
-fn damage_length(random: &mut Random, list: &mut Vec<u16>, most: usize) {
+/// One item short or long, empty, or as long as the ranges allow and just beyond.
+fn damage_length(random: &mut Random, list: &mut Vec<u16>, most: fn(Counts) -> usize) {
     let next = (list.len() as u16).wrapping_add(1);
     match random.below(40) {
         0..=11 => {
@@ -471,7 +544,7 @@ fn damage_length(random: &mut Random, list: &mut Vec<u16>, most: usize) {
         }
         12..=23 => list.push(next),
         24..=29 => list.clear(),
-        30..=38 => extend_to(list, most + random.below(3)),
+        30..=38 => extend_to(list, most(any_ranges(random)) + random.below(3)),
         // A length that looks right in 16 bits; rare, since it takes long.
         _ => extend_to(list, list.len() + 65536),
     }
@@ -484,11 +557,12 @@ fn extend_to(list: &mut Vec<u16>, len: usize) {
     }
 }
 
-/// A card: written whole, or packed with counts out of range, then perhaps damaged.
+/// A card: written whole, in the other edition or packed with counts out of range, then perhaps damaged.
 pub fn any_card(random: &mut Random, plan: &OwnPlan) -> Vec<u8> {
-    let mut card = match random.below(10) {
-        0..=6 => whole_card(plan),
-        7..=8 => wild_card(random, plan),
+    let mut card = match random.below(20) {
+        0..=12 => whole_card(plan),
+        13..=14 => pack(other_layout(plan), plan.lend()),
+        15..=17 => wild_card(random, plan),
         _ => random_bytes(random),
     };
     if random.chance(60) {
@@ -499,70 +573,63 @@ pub fn any_card(random: &mut Random, plan: &OwnPlan) -> Vec<u8> {
 
 /// The card as the reference writes it, or with wild lists where it refuses to.
 pub fn whole_card(plan: &OwnPlan) -> Vec<u8> {
-    match write(plan.lend().opened(), 1237) {
-        Ok(card) => card,
-        Err(_) => packed(plan, 1, plan.night.inbound.len(), plan.night.lengths.len()),
+    let plan = plan.lend();
+    write(plan, LONGEST_CARD).unwrap_or_else(|_| pack(Layout::right_for(plan), plan))
+}
+
+fn other_layout(plan: &OwnPlan) -> &'static Layout {
+    match Layout::right_for(plan.lend()).edition {
+        1 => &cards::SECOND,
+        _ => &cards::FIRST,
     }
 }
 
-/// A card on which one count is a random number of its width; the lists stay as they are.
+/// A card on which the edition or one or two counts are at the end of some range or the most that their bits hold; the
+/// lists stay as they are.
 fn wild_card(random: &mut Random, plan: &OwnPlan) -> Vec<u8> {
-    let mut wild = plan.clone();
-    let mut edition = 1;
-    let mut cars = plan.night.inbound.len();
-    let mut trains = plan.night.lengths.len();
+    let layout = random.pick(&[&cards::FIRST, &cards::SECOND]);
+    let [_, steps, tracks, room, cars, trains] = layout.header;
+    let mut counts = plan.night.lend().counts(plan.steps);
     for _ in 0..random.within(1..=2) {
-        match random.below(6) {
-            0 => edition = random.below(16),
-            1 => wild.steps = random.below(16),
-            2 => wild.night.tracks = random.pick(&[0, 8, 9, 15]),
-            3 => wild.night.room = random.pick(&[0, 1, 512, 513, 1023]),
-            4 => cars = random.pick(&[0, 1, 512, 513, 1023]),
-            _ => trains = random.pick(&[0, 1, 64, 65, 127]),
+        match random.below(5) {
+            0 => counts.steps = wild_field(random, steps),
+            1 => counts.tracks = wild_field(random, tracks),
+            2 => counts.room = wild_field(random, room),
+            3 => counts.cars = wild_field(random, cars),
+            _ => counts.trains = wild_field(random, trains),
         }
     }
-    packed(&wild, edition, cars, trains)
+    let mut card = pack_counts(layout, plan.lend(), counts);
+    if random.chance(20) {
+        card[0] = (random.below(16) * 16) as u8 + card[0] % 16;
+    }
+    card
 }
 
-/// The fields of a card, each cut to its width, whatever they hold.
-fn packed(plan: &OwnPlan, edition: usize, cars: usize, trains: usize) -> Vec<u8> {
-    let mut bits = Packer::default();
-    let header = [
-        (edition, 4),
-        (plan.steps, 4),
-        (plan.night.tracks, 4),
-        (plan.night.room, 10),
-        (cars, 10),
-        (trains, 7),
-    ];
-    for (number, width) in header {
-        bits.put(number, width);
+/// A number that a field of so many bits holds.
+fn wild_field(random: &mut Random, bits: usize) -> usize {
+    let most = usize::from(all_bits(bits));
+    let held: Vec<usize> = EDGES.into_iter().filter(|&edge| edge < most).collect();
+    match random.below(4) {
+        0 => 0,
+        1 => most,
+        2 => random.within(0..=most),
+        _ => random.pick(&held),
     }
-    let lists = [
-        (&plan.night.lengths, 10),
-        (&plan.night.inbound, 10),
-        (&plan.codes, plan.steps.min(8)),
-    ];
-    for (list, width) in lists {
-        for &item in list.iter().take(600) {
-            bits.put(usize::from(item), width);
-        }
-    }
-    bits.bytes()
 }
 
 fn random_bytes(random: &mut Random) -> Vec<u8> {
-    let len = random.pick(&[1, 4, 5, 6, 40]);
+    let len = random.pick(&[1, 4, 5, 6, 7, 8, 40]);
     let mut bytes: Vec<u8> = (0..len).map(|_| random.bits() as u8).collect();
-    if random.chance(70) {
-        bytes[0] = 16 + bytes[0] % 16;
+    if random.chance(80) {
+        bytes[0] = random.pick(&[16, 32]) + bytes[0] % 16;
     }
     bytes
 }
 
 fn damage_card(random: &mut Random, card: &mut Vec<u8>) {
     match random.below(6) {
-        0 => card.truncate(random.below(7)),
+        0 => card.truncate(random.below(9)),
         1 => card.truncate(random.below(card.len() + 1)),
         2 => {
             card.pop();

@@ -1,7 +1,7 @@
 //! The codes of given steps with the fewest passes, found in two ways that have only the yard in common: every list is
 //! tried there, or lists grow car by car, by the paper's rule on pairs and what the yard shows of lone cars.
 
-use crate::steps::{is_break, kept_passes, two_to};
+use crate::steps::{kept_passes, two_to, Arrivals};
 use crate::yard::{first_out_of_order, Replay};
 use crate::{Night, Plan};
 use std::cmp::Ordering;
@@ -9,7 +9,9 @@ use std::cmp::Ordering;
 /// All code lists for these steps, a list that is smaller at the first differing car before a larger one.
 pub fn code_lists(cars: usize, steps: usize) -> impl Iterator<Item = Vec<u16>> {
     std::iter::successors(Some(vec![0; cars]), move |codes| {
-        let place = codes.iter().rposition(|&code| code + 1 < two_to(steps))?;
+        let place = codes
+            .iter()
+            .rposition(|&code| usize::from(code) + 1 < two_to(steps))?;
         let mut next = codes.clone();
         next[place] += 1;
         next[place + 1..].fill(0);
@@ -48,6 +50,7 @@ fn passes_if_built(plan: Plan) -> Option<usize> {
 /// may follow it depends on this code alone.
 pub fn go_car_by_car(night: Night, steps: usize) -> Option<Vec<u16>> {
     let lone_passes = kept_passes(night.mark, night.tracks, steps);
+    let arrivals = Arrivals::of(night);
     let mut lists = Lists::of_no_cars(lone_passes.len());
     let mut car = 0;
     for &length in night.lengths {
@@ -55,7 +58,7 @@ pub fn go_car_by_car(night: Night, steps: usize) -> Option<Vec<u16>> {
             car += 1;
             let follows = match place {
                 0 => Follows::AnyCode,
-                _ if is_break(night, car - 1) => Follows::Smaller,
+                _ if arrivals.is_break(car - 1) => Follows::Smaller,
                 _ => Follows::SmallerOrEqual,
             };
             lists.lengthen(follows, lone_passes);

@@ -1,16 +1,11 @@
 //! What the programs `nightcard` and `nightplan` put out for a card on standard input.
 
 use crate::answers::Refusal;
-use crate::reference::{check, derive, read, write, Card, CardBuffers};
+use crate::cards::{read, write, CardBuffers};
+use crate::counts::{LONGEST_CARD, MOST};
+use crate::reference::{check, derive};
 use crate::yard::Replay;
-use crate::{Night, Plan};
-
-const AMPLE: CardBuffers = CardBuffers {
-    lengths: 64,
-    inbound: 512,
-    codes: 512,
-};
-const LONGEST_CARD: usize = 1237;
+use crate::Plan;
 
 /// The lines of `nightcard`: the counts and the trains as built, or the refusal.
 pub fn nightcard(card: &[u8]) -> String {
@@ -23,12 +18,8 @@ pub fn nightplan(card: &[u8]) -> Vec<u8> {
 }
 
 fn card_lines(bytes: &[u8]) -> Result<String, Refusal> {
-    let card = read(bytes, AMPLE)?;
-    let plan = Plan {
-        night: night_of(&card),
-        steps: card.steps,
-        codes: &card.codes,
-    };
+    let card = read(bytes, CardBuffers::of(MOST))?;
+    let plan = card.plan();
     let checked = check(plan)?;
     let mut lines = format!(
         "steps {} tracks {} room {} cars {} trains {} passes {}\n",
@@ -54,25 +45,15 @@ fn train_line(train: usize, cars: &[u16]) -> String {
 }
 
 fn new_card(bytes: &[u8]) -> Result<Vec<u8>, Refusal> {
-    let card = read(bytes, AMPLE)?;
-    let night = night_of(&card);
-    let derived = derive(night, 8, AMPLE.codes)?;
+    let card = read(bytes, CardBuffers::of(MOST))?;
+    let night = card.plan().night;
+    let derived = derive(night, MOST.steps, MOST.cars)?;
     let plan = Plan {
         night,
         steps: derived.steps,
         codes: &derived.codes,
     };
-    write(plan.opened(), LONGEST_CARD)
-}
-
-fn night_of(card: &Card) -> Night<'_> {
-    Night {
-        lengths: &card.lengths,
-        inbound: &card.inbound,
-        tracks: card.tracks,
-        room: card.room,
-        mark: card.mark,
-    }
+    write(plan, LONGEST_CARD)
 }
 
 fn refusal_line(refusal: Refusal) -> String {

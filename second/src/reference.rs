@@ -1,10 +1,11 @@
 //! The reference for each call: the tests in the paper's order, then the work car by car.
 
 use crate::answers::{refuse, Answer, CardAnswer, PriceAnswer, Refusal, Timings};
-use crate::bits::{Packer, Unpacker};
+use crate::cards::Card;
+use crate::counts::{Counts, FIRST, MOST, MOST_PASSES};
 use crate::steps::{breaks_before, codes_for, fewest_steps, two_to};
-use crate::yard::{first_out_of_order, Replay, Yard};
-use crate::{Mark, Night, OpenPlan, Plan};
+use crate::yard::{first_out_of_order, place_of, Replay, Yard};
+use crate::{Night, Plan};
 
 /// What an accepted derive or search for the fewest passes answers and writes.
 #[derive(Clone, Debug, PartialEq, Eq)]
@@ -29,26 +30,6 @@ pub struct Staged {
     pub at: Vec<u16>,
 }
 
-/// What an accepted card holds.
-#[derive(Clone, Debug, PartialEq, Eq)]
-pub struct Card {
-    pub mark: Mark,
-    pub steps: usize,
-    pub tracks: usize,
-    pub room: usize,
-    pub lengths: Vec<u16>,
-    pub inbound: Vec<u16>,
-    pub codes: Vec<u16>,
-}
-
-/// How many items each buffer lent to the card reader can hold.
-#[derive(Clone, Copy, Debug)]
-pub struct CardBuffers {
-    pub lengths: usize,
-    pub inbound: usize,
-    pub codes: usize,
-}
-
 pub fn derive(night: Night, limit: usize, codes_len: usize) -> Result<Derived, Refusal> {
     test_night(night, limit)?;
     test_buffer(codes_len, night.inbound.len(), 3)?;
@@ -68,7 +49,8 @@ pub fn fewest_passes(
     codes_len: usize,
     search: impl Fn(Night, usize) -> Option<Vec<u16>>,
 ) -> Result<Derived, Refusal> {
-    test_night(night, steps)?;
+    test_counts(night.counts(steps), FIRST)?;
+    test_lists(night)?;
     test_buffer(codes_len, night.inbound.len(), 3)?;
     match search(night, steps) {
         Some(codes) => with_room(night, steps, codes),
@@ -117,19 +99,12 @@ pub fn check(plan: Plan) -> Result<Checked, Refusal> {
 pub fn replay(plan: Plan, stage: usize, on_len: usize, at_len: usize) -> Result<Staged, Refusal> {
     let night = plan.night;
     let cars = night.inbound.len();
-    test_counts(
-        cars,
-        night.lengths.len(),
-        night.tracks,
-        night.room,
-        plan.steps,
-    )?;
+    test_counts(night.counts(plan.steps), MOST)?;
     // The stage is the last of the counts, so it comes after the five others.
     if stage > plan.steps {
         return Err(refuse(1, 6));
     }
-    test_lengths(night.lengths, cars)?;
-    test_inbound(night.inbound)?;
+    test_lists(night)?;
     test_codes_length(plan)?;
     test_buffer(on_len, cars, 4)?;
     test_buffer(at_len, cars, 5)?;
@@ -141,67 +116,11 @@ pub fn replay(plan: Plan, stage: usize, on_len: usize, at_len: usize) -> Result<
     Ok(stand(&replay.stages[stage], cars))
 }
 
-pub fn read(card: &[u8], buffers: CardBuffers) -> Result<Card, Refusal> {
-    let Some(first_byte) = card.first() else {
-        return Err(refuse(10, 1));
-    };
-    let edition = usize::from(first_byte / 16);
-    if edition != 1 {
-        return Err(refuse(11, edition));
-    }
-    if card.len() < 5 {
-        return Err(refuse(10, 5));
-    }
-    let mut bits = Unpacker::new(card);
-    bits.take(4);
-    let steps = bits.take(4);
-    let tracks = bits.take(4);
-    let room = bits.take(10);
-    let cars = bits.take(10);
-    let trains = bits.take(7);
-    test_counts(cars, trains, tracks, room, steps)?;
-    let whole = card_length(cars, trains, steps);
-    if card.len() < whole {
-        return Err(refuse(10, whole));
-    }
-    test_buffer(buffers.lengths, trains, 1)?;
-    test_buffer(buffers.inbound, cars, 2)?;
-    test_buffer(buffers.codes, cars, 3)?;
-    let lengths = take_list(&mut bits, trains, 10);
-    test_lengths(&lengths, cars)?;
-    let inbound = take_list(&mut bits, cars, 10);
-    test_inbound(&inbound)?;
-    let codes = take_list(&mut bits, cars, steps);
-    if !bits.is_rest_of_byte_zero() || card.len() > whole {
-        return Err(refuse(12, whole));
-    }
-    Ok(Card {
-        // Edition 1 means open.
-        mark: Mark::Open,
-        steps,
-        tracks,
-        room,
-        lengths,
-        inbound,
-        codes,
-    })
-}
-
-pub fn write(plan: OpenPlan, card_len: usize) -> Result<Vec<u8>, Refusal> {
-    let plan = plan.plan();
-    test_night(plan.night, plan.steps)?;
-    test_codes_length(plan)?;
-    test_codes(plan)?;
-    let card = pack(plan);
-    test_buffer(card_len, card.len(), 6)?;
-    Ok(card)
-}
-
 pub fn price(steps: usize, passes: usize, timings: Timings) -> Result<f64, Refusal> {
-    if steps > 8 {
+    if steps > MOST.steps {
         return Err(refuse(1, 5));
     }
-    if passes > 4608 {
+    if passes > MOST_PASSES {
         return Err(refuse(1, 7));
     }
     let pull = sixteenths(timings.pull).ok_or(refuse(13, 1))?;
@@ -214,30 +133,22 @@ pub fn price(steps: usize, passes: usize, timings: Timings) -> Result<f64, Refus
         sum += push;
     }
     // Below 2^53, so the whole number and its sixteenth are both exact.
-    Ok(f64::from(sum) / 16.0)
+    Ok(sum as f64 / 16.0)
 }
 
 /// The tests 1, 2 and 3 of a night; steps may be a limit.
-fn test_night(night: Night, steps: usize) -> Result<(), Refusal> {
-    let cars = night.inbound.len();
-    test_counts(cars, night.lengths.len(), night.tracks, night.room, steps)?;
-    test_lengths(night.lengths, cars)?;
-    test_inbound(night.inbound)
+pub fn test_night(night: Night, steps: usize) -> Result<(), Refusal> {
+    test_counts(night.counts(steps), MOST)?;
+    test_lists(night)
 }
 
-fn test_counts(
-    cars: usize,
-    trains: usize,
-    tracks: usize,
-    room: usize,
-    steps: usize,
-) -> Result<(), Refusal> {
+pub fn test_counts(counts: Counts, most: Counts) -> Result<(), Refusal> {
     let ranges = [
-        (cars, 1, 512),
-        (trains, 1, 64),
-        (tracks, 1, 8),
-        (room, 1, 512),
-        (steps, 0, 8),
+        (counts.cars, 1, most.cars),
+        (counts.trains, 1, most.trains),
+        (counts.tracks, 1, most.tracks),
+        (counts.room, 1, most.room),
+        (counts.steps, 0, most.steps),
     ];
     for (place, (count, least, most)) in ranges.into_iter().enumerate() {
         if count < least || count > most {
@@ -247,7 +158,12 @@ fn test_counts(
     Ok(())
 }
 
-fn test_lengths(lengths: &[u16], cars: usize) -> Result<(), Refusal> {
+fn test_lists(night: Night) -> Result<(), Refusal> {
+    test_lengths(night.lengths, night.inbound.len())?;
+    test_inbound(night.inbound)
+}
+
+pub fn test_lengths(lengths: &[u16], cars: usize) -> Result<(), Refusal> {
     for (place, &length) in lengths.iter().enumerate() {
         if length == 0 {
             return Err(refuse(2, place + 1));
@@ -263,25 +179,22 @@ fn test_lengths(lengths: &[u16], cars: usize) -> Result<(), Refusal> {
     Ok(())
 }
 
-fn test_inbound(inbound: &[u16]) -> Result<(), Refusal> {
+pub fn test_inbound(inbound: &[u16]) -> Result<(), Refusal> {
     for (place, &car) in inbound.iter().enumerate() {
         if car == 0 || usize::from(car) > inbound.len() {
             return Err(refuse(3, place + 1));
         }
-        for (earlier, &met) in inbound[..place].iter().enumerate() {
-            if met == car {
-                let b = earlier + 1;
-                return Err(Refusal {
-                    b,
-                    ..refuse(3, place + 1)
-                });
-            }
+        if inbound[..place].contains(&car) {
+            return Err(Refusal {
+                b: place_of(inbound, car) + 1,
+                ..refuse(3, place + 1)
+            });
         }
     }
     Ok(())
 }
 
-fn test_codes_length(plan: Plan) -> Result<(), Refusal> {
+pub fn test_codes_length(plan: Plan) -> Result<(), Refusal> {
     if plan.codes.len() != plan.night.inbound.len() {
         return Err(refuse(4, 3));
     }
@@ -289,16 +202,16 @@ fn test_codes_length(plan: Plan) -> Result<(), Refusal> {
 }
 
 /// A buffer may be longer than what is written to it, not shorter.
-fn test_buffer(len: usize, needed: usize, list: usize) -> Result<(), Refusal> {
+pub fn test_buffer(len: usize, needed: usize, list: usize) -> Result<(), Refusal> {
     if len < needed {
         return Err(refuse(4, list));
     }
     Ok(())
 }
 
-fn test_codes(plan: Plan) -> Result<(), Refusal> {
+pub fn test_codes(plan: Plan) -> Result<(), Refusal> {
     for (place, &code) in plan.codes.iter().enumerate() {
-        if code >= two_to(plan.steps) {
+        if usize::from(code) >= two_to(plan.steps) {
             return Err(refuse(7, place + 1));
         }
     }
@@ -352,45 +265,8 @@ fn stand(yard: &Yard, cars: usize) -> Staged {
     }
 }
 
-/// The bytes of a card with these counts.
-pub fn card_length(cars: usize, trains: usize, steps: usize) -> usize {
-    let bits = 4 + 4 + 4 + 10 + 10 + 7 + trains * 10 + cars * 10 + cars * steps;
-    let mut bytes = 0;
-    while bytes * 8 < bits {
-        bytes += 1;
-    }
-    bytes
-}
-
-fn take_list(bits: &mut Unpacker, count: usize, width: usize) -> Vec<u16> {
-    // No width is above 10, so every number fits.
-    (0..count).map(|_| bits.take(width) as u16).collect()
-}
-
-/// The card of a plan that passed all tests.
-fn pack(plan: Plan) -> Vec<u8> {
-    let night = plan.night;
-    let mut bits = Packer::default();
-    bits.put(1, 4);
-    bits.put(plan.steps, 4);
-    bits.put(night.tracks, 4);
-    bits.put(night.room, 10);
-    bits.put(night.inbound.len(), 10);
-    bits.put(night.lengths.len(), 7);
-    for &length in night.lengths {
-        bits.put(usize::from(length), 10);
-    }
-    for &car in night.inbound {
-        bits.put(usize::from(car), 10);
-    }
-    for &code in plan.codes {
-        bits.put(usize::from(code), plan.steps);
-    }
-    bits.bytes()
-}
-
 /// A timing in sixteenths, taken from the double's own bits, or nothing if it is not allowed.
-fn sixteenths(timing: f64) -> Option<u32> {
+fn sixteenths(timing: f64) -> Option<u64> {
     let bits = timing.to_bits();
     let is_negative = bits >> 63 == 1;
     let exponent = (bits >> 52) % 2048;
@@ -410,7 +286,7 @@ fn sixteenths(timing: f64) -> Option<u32> {
     if !significand.is_multiple_of(divisor) || whole > 4096 * 16 {
         return None;
     }
-    u32::try_from(whole).ok()
+    Some(whole)
 }
 
 /// The answer of a call that hands back numbers alone.

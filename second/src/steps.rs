@@ -1,11 +1,9 @@
 //! Usable codes, how many there are, breaks, and the fewest steps.
 
-use crate::yard::{place_of, Replay};
-use crate::{Mark, Night, Plan, MARKS};
+use crate::counts::MOST;
+use crate::yard::{places_in, Yard};
+use crate::{Mark, Night, Plan};
 use std::sync::OnceLock;
-
-pub const MOST_TRACKS: usize = 8;
-pub const MOST_STEPS: usize = 8;
 
 /// The roll-ins of a lone car with this code, replayed on these tracks in a night of this mark, or
 /// nothing where it is pulled early or turned away by a barred destination.
@@ -22,8 +20,11 @@ fn lone_passes(mark: Mark, code: u16, tracks: usize, steps: usize) -> Option<u16
         steps,
         codes: &[code],
     };
-    let replay = Replay::of(plan);
-    replay.goes_on().then(|| replay.end().passes as u16)
+    let mut yard = Yard::rolled_in(plan);
+    let is_turned_away = yard.turned_away().is_some();
+    let is_early = |step| yard.take_step(plan, step).1.is_some();
+    let is_stopped = is_turned_away || (0..steps).any(is_early);
+    (!is_stopped).then_some(yard.passes as u16)
 }
 
 /// Whether a lone car with this code gets through the yard.
@@ -31,18 +32,8 @@ pub fn is_usable(mark: Mark, code: u16, tracks: usize, steps: usize) -> bool {
     lone_passes(mark, code, tracks, steps).is_some()
 }
 
-/// The usable codes below 2^h, counted upward, each tried by a replay of its own.
-pub fn usable_codes(mark: Mark, tracks: usize, steps: usize) -> Vec<u16> {
-    let mut codes = Vec::new();
-    for code in 0..two_to(steps) {
-        if is_usable(mark, code, tracks, steps) {
-            codes.push(code);
-        }
-    }
-    codes
-}
-
-pub fn two_to(steps: usize) -> u16 {
+/// 2^h, one more than the greatest code of these steps.
+pub fn two_to(steps: usize) -> usize {
     let mut power = 1;
     for _ in 0..steps {
         power *= 2;
@@ -50,47 +41,51 @@ pub fn two_to(steps: usize) -> u16 {
     power
 }
 
-/// What lone cars showed of the codes below 2^h: the usable ones, and the roll-ins with each of all.
+/// All codes below 2^h, counted upward.
+pub fn all_codes(steps: usize) -> impl Iterator<Item = u16> {
+    (0..=u16::MAX).take(two_to(steps))
+}
+
+/// What lone cars showed of the codes below 2^h: the usable ones, counted upward, and the roll-ins with each of all.
 struct Kept {
     usable: Vec<u16>,
     passes: Vec<Option<u16>>,
 }
 
 impl Kept {
+    /// Each code is tried by a replay of its own.
     fn of(mark: Mark, tracks: usize, steps: usize) -> Kept {
-        let passes = |code| lone_passes(mark, code, tracks, steps);
-        Kept {
-            usable: usable_codes(mark, tracks, steps),
-            passes: (0..two_to(steps)).map(passes).collect(),
+        let mut kept = Kept {
+            usable: Vec::new(),
+            passes: Vec::new(),
+        };
+        for code in all_codes(steps) {
+            let passes = lone_passes(mark, code, tracks, steps);
+            kept.passes.push(passes);
+            if passes.is_some() {
+                kept.usable.push(code);
+            }
         }
+        kept
     }
 }
 
-/// The codes for at most eight steps, all of them replayed once and kept.
+/// Nothing is kept until it is first asked for, by mark, tracks and steps.
+type AllKept = [[[OnceLock<Kept>; MOST.steps + 1]; MOST.tracks]; 2];
+
+/// The codes of these steps, all of them replayed once and kept.
 fn kept(mark: Mark, tracks: usize, steps: usize) -> &'static Kept {
-    static KEPT: OnceLock<[Vec<Vec<Kept>>; 2]> = OnceLock::new();
-    let kept = KEPT.get_or_init(|| {
-        let by_steps = |mark, tracks| {
-            (0..=MOST_STEPS)
-                .map(|steps| Kept::of(mark, tracks, steps))
-                .collect()
-        };
-        let by_tracks = |mark| {
-            (1..=MOST_TRACKS)
-                .map(|tracks| by_steps(mark, tracks))
-                .collect()
-        };
-        MARKS.map(by_tracks)
-    });
-    &kept[mark.number()][tracks - 1][steps]
+    static KEPT: AllKept =
+        [const { [const { [const { OnceLock::new() }; MOST.steps + 1] }; MOST.tracks] }; 2];
+    KEPT[mark.number()][tracks - 1][steps].get_or_init(|| Kept::of(mark, tracks, steps))
 }
 
-/// The usable codes for at most eight steps.
+/// The usable codes below 2^h, counted upward.
 pub fn kept_codes(mark: Mark, tracks: usize, steps: usize) -> &'static [u16] {
     &kept(mark, tracks, steps).usable
 }
 
-/// The roll-ins of a lone car with each code of at most eight steps, or nothing where it is not usable.
+/// The roll-ins of a lone car with each code below 2^h, or nothing where it is not usable.
 pub fn kept_passes(mark: Mark, tracks: usize, steps: usize) -> &'static [Option<u16>] {
     &kept(mark, tracks, steps).passes
 }
@@ -114,10 +109,10 @@ pub fn recursive_counts(tracks: usize, enough: usize) -> Vec<usize> {
 }
 
 /// The least h with a usable code for each number of breaks: found by counting those that the yard
-/// lets through, and beyond eight steps, where there are too many to try, by the recursion.
+/// lets through, and beyond sixteen steps, where there are too many to try, by the recursion.
 pub fn fewest_steps(mark: Mark, tracks: usize, most_breaks: usize) -> usize {
     let is_enough = |&steps: &usize| kept_codes(mark, tracks, steps).len() > most_breaks;
-    match (0..=MOST_STEPS).find(is_enough) {
+    match (0..=MOST.steps).find(is_enough) {
         Some(steps) => steps,
         None => recursive_steps(mark, tracks, most_breaks),
     }
@@ -134,13 +129,14 @@ pub fn recursive_steps(mark: Mark, tracks: usize, most_breaks: usize) -> usize {
 
 /// For each car, in car order, the breaks before it in its train.
 pub fn breaks_before(night: Night) -> Vec<usize> {
+    let arrivals = Arrivals::of(night);
     let mut breaks = Vec::new();
     let mut car = 0;
     for &length in night.lengths {
         let mut met = 0;
         for place in 0..length {
             car += 1;
-            if place > 0 && is_break(night, car - 1) {
+            if place > 0 && arrivals.is_break(car - 1) {
                 met += 1;
             }
             breaks.push(met);
@@ -149,9 +145,22 @@ pub fn breaks_before(night: Night) -> Vec<usize> {
     breaks
 }
 
-/// Whether the pair of this car and the next is a break, both being in one train.
-pub fn is_break(night: Night, car: u16) -> bool {
-    place_of(night.inbound, car + 1) < place_of(night.inbound, car)
+/// Where each car of a night comes in, by its number.
+pub struct Arrivals {
+    places: Vec<usize>,
+}
+
+impl Arrivals {
+    pub fn of(night: Night) -> Arrivals {
+        Arrivals {
+            places: places_in(&[night.inbound]),
+        }
+    }
+
+    /// Whether the pair of this car and the next is a break, both being in one train.
+    pub fn is_break(&self, car: u16) -> bool {
+        self.places[usize::from(car) + 1] < self.places[usize::from(car)]
+    }
 }
 
 /// For each car's number of breaks q, the code with q others below it that the yard lets through.
@@ -160,12 +169,11 @@ pub fn codes_for(mark: Mark, breaks: &[usize], tracks: usize, steps: usize) -> V
     breaks.iter().map(|&met| usable[met]).collect()
 }
 
-/// The fewest tracks on which a car with this code is never pulled early.
-pub fn fewest_tracks(code: u8) -> usize {
-    for tracks in 1..MOST_TRACKS {
-        if is_usable(Mark::Open, u16::from(code), tracks, MOST_STEPS) {
-            return tracks;
-        }
-    }
-    MOST_TRACKS
+/// The numbers of tracks on which a lone car with this code is never pulled early.
+pub fn usable_tracks(code: u16) -> Vec<usize> {
+    let is_usable_on = |&tracks: &usize| {
+        let passes = kept_passes(Mark::Open, tracks, MOST.steps);
+        passes[usize::from(code)].is_some()
+    };
+    (1..=MOST.tracks).filter(is_usable_on).collect()
 }

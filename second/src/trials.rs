@@ -1,17 +1,19 @@
 //! One trial: a night from a seed, with plans and cards for it, through every call.
 
+use crate::cards::{self, pack, CardBuffers, Layout};
+use crate::counts::{FIRST, LONGEST_CARD, MOST, MOST_PASSES};
 use crate::harness::{
     compare_check, compare_derive, compare_fewest_passes, compare_fewest_tracks, compare_price,
     compare_read, compare_replay, compare_write, StageBuffers,
 };
 use crate::nights::{
-    all_trains, any_card, any_night, any_plan, any_timings, block_orders, damage_codes,
+    all_trains, any_card, any_night, any_plan, any_ranges, any_timings, block_orders, damage_codes,
     damage_night, derived_plan, lightest_plan, orders, shuffled, tight_room, train_lengths,
-    trial_nights, whole_card, wild_count, OwnNight, OwnPlan,
+    trial_nights, wild_count, OwnNight, OwnPlan,
 };
 use crate::passes::{code_lists, go_car_by_car, try_all_lists};
 use crate::random::Random;
-use crate::reference::{card_length, CardBuffers};
+use crate::reference::test_counts;
 use crate::tally::Tally;
 use crate::{Calls, Mark, Night, MARKS};
 use std::cell::OnceCell;
@@ -24,7 +26,8 @@ pub struct Bench<'a> {
 
 /// All calls once or more, on a night that this trial's generator makes.
 pub fn trial<C: Calls>(bench: &mut Bench) -> Result<(), String> {
-    let night = any_night(bench.random);
+    let most = any_ranges(bench.random);
+    let night = any_night(bench.random, most);
     let plan = any_plan(bench.random, &night);
     derive_trial::<C>(bench, &night)?;
     check_trial::<C>(bench, &plan)?;
@@ -32,7 +35,13 @@ pub fn trial<C: Calls>(bench: &mut Bench) -> Result<(), String> {
     write_trial::<C>(bench, &plan)?;
     read_trial::<C>(bench, &plan)?;
     price_trial::<C>(bench)?;
-    fewest_passes_trial::<C>(bench, &night)
+    let small = any_night(bench.random, FIRST);
+    let night = if bench.random.chance(90) {
+        small
+    } else {
+        night
+    };
+    fewest_passes_trial::<C>(bench, night)
 }
 
 fn derive_trial<C: Calls>(bench: &mut Bench, night: &OwnNight) -> Result<(), String> {
@@ -47,11 +56,11 @@ fn derive_trial<C: Calls>(bench: &mut Bench, night: &OwnNight) -> Result<(), Str
     compare_derive::<C>(random, bench.tally, night.lend(), limit, codes_len)
 }
 
-/// Mostly eight steps, else any number of them, as many as the night needs, one fewer, or no number of steps.
+/// Mostly sixteen steps or eight, else any number of them, as many as the night needs, one fewer, or no number of steps.
 fn any_limit(random: &mut Random, night: &OwnNight) -> usize {
     let limit = match random.below(20) {
-        0..=11 => 8,
-        12..=15 => random.below(9),
+        0..=11 => any_ranges(random).steps,
+        12..=15 => random.within(0..=MOST.steps),
         _ => derived_plan(night).steps.saturating_sub(random.below(2)),
     };
     seldom_wild(random, limit)
@@ -64,15 +73,16 @@ fn seldom_wild(random: &mut Random, steps: usize) -> usize {
     }
 }
 
-/// Of the longer nights, on which the reference takes long, some are left out.
-fn fewest_passes_trial<C: Calls>(bench: &mut Bench, night: &OwnNight) -> Result<(), String> {
+/// Of the longer nights, on which the reference takes long, some are left out. A night beyond document 01's ranges is
+/// refused.
+fn fewest_passes_trial<C: Calls>(bench: &mut Bench, mut night: OwnNight) -> Result<(), String> {
     let random = &mut *bench.random;
     if night.inbound.len() > 64 && random.chance(85) {
         return Ok(());
     }
-    let steps = any_steps(random, night);
-    let mut night = night.clone();
-    if random.chance(50) {
+    let steps = any_steps(random, &night);
+    let is_small = test_counts(night.lend().counts(0), FIRST).is_ok();
+    if is_small && random.chance(50) {
         night.room = tight_room(random, &lightest_plan(&night, steps));
     }
     damage_some(random, &mut night);
@@ -81,15 +91,15 @@ fn fewest_passes_trial<C: Calls>(bench: &mut Bench, night: &OwnNight) -> Result<
     compare_fewest_passes::<C>(random, bench.tally, lent, steps, codes_len, go_car_by_car)
 }
 
-/// Mostly as many steps as the night needs or up to two more, else one fewer, eight, any number of them, or no number
-/// of steps.
+/// Mostly as many steps as the night needs, at most eight, or up to two more, else one fewer, eight, any number of them,
+/// or no number of steps.
 fn any_steps(random: &mut Random, night: &OwnNight) -> usize {
-    let needed = derived_plan(night).steps;
+    let needed = derived_plan(night).steps.min(FIRST.steps);
     let steps = match random.below(20) {
-        0..=9 => (needed + random.below(3)).min(8),
+        0..=9 => (needed + random.below(3)).min(FIRST.steps),
         10..=11 => needed.saturating_sub(1),
-        12..=13 => 8,
-        _ => random.below(9),
+        12..=13 => FIRST.steps,
+        _ => random.within(0..=FIRST.steps),
     };
     seldom_wild(random, steps)
 }
@@ -104,7 +114,7 @@ fn replay_trial<C: Calls>(bench: &mut Bench, plan: &OwnPlan) -> Result<(), Strin
     let random = &mut *bench.random;
     let plan = damaged(random, plan);
     let cars = plan.night.inbound.len();
-    let last = plan.steps.min(9);
+    let last = plan.steps.min(MOST.steps + 1);
     let mut stages = vec![random.below(last + 1)];
     if random.chance(10) {
         stages = (0..=last).collect();
@@ -125,32 +135,31 @@ fn replay_trial<C: Calls>(bench: &mut Bench, plan: &OwnPlan) -> Result<(), Strin
 fn write_trial<C: Calls>(bench: &mut Bench, plan: &OwnPlan) -> Result<(), String> {
     let random = &mut *bench.random;
     let plan = damaged(random, plan);
-    let whole = card_length(
-        plan.night.inbound.len().min(512),
-        plan.night.lengths.len().min(64),
-        plan.steps.min(8),
-    );
+    let whole = card_length(&plan).min(LONGEST_CARD);
     let card_len = any_length(random, whole);
-    compare_write::<C>(random, bench.tally, plan.lend().opened(), card_len)
+    compare_write::<C>(random, bench.tally, plan.lend(), card_len)
+}
+
+/// The bytes of a plan's card.
+fn card_length(plan: &OwnPlan) -> usize {
+    let counts = plan.night.lend().counts(plan.steps.min(MOST.steps));
+    Layout::right_for(plan.lend()).length(counts)
 }
 
 fn read_trial<C: Calls>(bench: &mut Bench, plan: &OwnPlan) -> Result<(), String> {
     let random = &mut *bench.random;
     let plan = damaged(random, plan);
     let card = any_card(random, &plan);
-    let cars = plan.night.inbound.len().min(513);
+    let cars = plan.night.inbound.len().min(MOST.cars + 1);
+    let trains = plan.night.lengths.len().min(MOST.trains + 1);
     let mut buffers = CardBuffers {
-        lengths: any_length(random, plan.night.lengths.len().min(65)),
+        lengths: any_length(random, trains),
         inbound: any_length(random, cars),
         codes: any_length(random, cars),
     };
-    if random.chance(25) {
+    if random.chance(20) {
         // Ample buffers let flipped counts get as far as the lists.
-        buffers = CardBuffers {
-            lengths: 64,
-            inbound: 512,
-            codes: 512,
-        };
+        buffers = CardBuffers::of(any_ranges(random));
     }
     compare_read::<C>(random, bench.tally, &card, buffers)
 }
@@ -158,8 +167,8 @@ fn read_trial<C: Calls>(bench: &mut Bench, plan: &OwnPlan) -> Result<(), String>
 fn price_trial<C: Calls>(bench: &mut Bench) -> Result<(), String> {
     let random = &mut *bench.random;
     for _ in 0..4 {
-        let mut steps = random.below(9);
-        let mut passes = random.below(4609);
+        let mut steps = random.within(0..=MOST.steps);
+        let mut passes = random.within(0..=MOST_PASSES);
         if random.chance(10) {
             steps = wild_count(random, steps);
         }
@@ -172,9 +181,9 @@ fn price_trial<C: Calls>(bench: &mut Bench) -> Result<(), String> {
     Ok(())
 }
 
-/// All 256 codes of the table, each once.
+/// All codes of up to sixteen steps, each once.
 pub fn table_trial<C: Calls>(tally: &mut Tally) -> Result<(), String> {
-    for code in 0..=255 {
+    for code in 0..=u16::MAX {
         compare_fewest_tracks::<C>(tally, code)?;
     }
     Ok(())
@@ -188,16 +197,16 @@ pub fn paper_nights<C: Calls>(tally: &mut Tally) -> Result<(), String> {
         tally,
     };
     for (lengths, inbound) in trial_nights() {
-        for tracks in 1..=8 {
+        for tracks in 1..=MOST.tracks {
             let night = OwnNight {
                 lengths: lengths.clone(),
                 inbound: inbound.clone(),
                 tracks,
-                room: 512,
+                room: FIRST.room,
                 mark: Mark::Open,
             };
             open_and_closed(&night, |night| {
-                searched_night::<C>(&mut bench, night, 8, go_car_by_car)
+                searched_night::<C>(&mut bench, night, FIRST.steps, go_car_by_car)
             })?;
             for room in ROOMS {
                 let night = OwnNight {
@@ -238,7 +247,7 @@ fn searched_night<C: Calls>(
 }
 
 /// A night with either mark through the same comparison.
-fn open_and_closed(
+pub fn open_and_closed(
     night: &OwnNight,
     mut compare: impl FnMut(&OwnNight) -> Result<(), String>,
 ) -> Result<(), String> {
@@ -250,26 +259,30 @@ fn open_and_closed(
 }
 
 /// One sound or unsound night with its derived plan, where it has one, through every call.
-fn whole_night<C: Calls>(bench: &mut Bench, night: &OwnNight) -> Result<(), String> {
+pub fn whole_night<C: Calls>(bench: &mut Bench, night: &OwnNight) -> Result<(), String> {
     let cars = night.inbound.len();
-    for limit in 0..=8 {
+    for limit in 0..=MOST.steps {
         compare_derive::<C>(bench.random, bench.tally, night.lend(), limit, cars)?;
     }
     let plan = derived_plan(night);
     whole_plan::<C>(bench, &plan)?;
-    let len = card_length(cars, night.lengths.len(), plan.steps);
-    compare_write::<C>(bench.random, bench.tally, plan.lend().opened(), len)?;
-    let buffers = CardBuffers {
-        lengths: night.lengths.len(),
-        inbound: cars,
-        codes: cars,
-    };
-    let card = whole_card(&plan);
-    compare_read::<C>(bench.random, bench.tally, &card, buffers)
+    both_cards::<C>(bench, &plan)
+}
+
+/// A plan through the writer, and through the reader as a card of either edition.
+pub fn both_cards<C: Calls>(bench: &mut Bench, plan: &OwnPlan) -> Result<(), String> {
+    let len = card_length(plan);
+    compare_write::<C>(bench.random, bench.tally, plan.lend(), len)?;
+    let buffers = CardBuffers::of(plan.night.lend().counts(plan.steps));
+    for layout in [&cards::FIRST, &cards::SECOND] {
+        let card = pack(layout, plan.lend());
+        compare_read::<C>(bench.random, bench.tally, &card, buffers)?;
+    }
+    Ok(())
 }
 
 /// A plan through check, and through replay to all its stages and one beyond.
-fn whole_plan<C: Calls>(bench: &mut Bench, plan: &OwnPlan) -> Result<(), String> {
+pub fn whole_plan<C: Calls>(bench: &mut Bench, plan: &OwnPlan) -> Result<(), String> {
     let cars = plan.night.inbound.len();
     compare_check::<C>(bench.random, bench.tally, plan.lend())?;
     for stage in 0..=plan.steps + 1 {
@@ -310,7 +323,7 @@ impl Nights {
         Nights {
             orders: orders(cars),
             trains: all_trains(cars),
-            most_tracks: 8,
+            most_tracks: FIRST.tracks,
         }
     }
 
@@ -357,12 +370,13 @@ pub fn tried_nights<C: Calls>(
     nights.each(|night| searched_night::<C>(&mut bench, night, most_steps, try_all_lists))
 }
 
-/// Lengths of lists: short ones, those around a word of 64, and the longest.
-const LIST_LENGTHS: [u16; 12] = [1, 2, 7, 8, 9, 63, 64, 65, 127, 128, 511, 512];
+/// Lengths of lists: short ones, those around a word of 64, and the longest of either range.
+const LIST_LENGTHS: [u16; 15] = [
+    1, 2, 7, 8, 9, 63, 64, 65, 127, 128, 511, 512, 513, 4095, 4096,
+];
 
-/// Lists with one number changed: each place of the short ones and some of the long ones, to every number up to
-/// twice the most cars and some far beyond, so that a number taken for another one is found. Without codes, check
-/// goes as far as the lists.
+/// Lists with one number changed, at each place of the short ones and some of the long ones, so that a number taken for
+/// another one is found. Without codes, check goes as far as the lists.
 pub fn changed_numbers<C: Calls>(tally: &mut Tally) -> Result<(), String> {
     let mut random = Random::new(0, 2);
     for cars in LIST_LENGTHS {
@@ -371,7 +385,7 @@ pub fn changed_numbers<C: Calls>(tally: &mut Tally) -> Result<(), String> {
                 lengths: vec![cars],
                 inbound: shuffled(&mut random, (1..=cars).collect()),
                 tracks: 1,
-                room: 512,
+                room: MOST.room,
                 mark: Mark::Open,
             },
             steps: 0,
@@ -379,7 +393,7 @@ pub fn changed_numbers<C: Calls>(tally: &mut Tally) -> Result<(), String> {
         };
         for place in changed_places(usize::from(cars)) {
             let car = plan.night.inbound[place];
-            for number in (0..=1040).chain([4096, 32768, u16::MAX]) {
+            for number in changed_numbers_for(car, cars) {
                 plan.night.inbound[place] = number;
                 compare_check::<C>(&mut random, tally, plan.lend())?;
             }
@@ -387,6 +401,20 @@ pub fn changed_numbers<C: Calls>(tally: &mut Tally) -> Result<(), String> {
         }
     }
     Ok(())
+}
+
+/// In lists of up to 512 cars every number up to twice as many, and some far beyond; in longer ones, which take long,
+/// those that differ from the car's in one bit, and those around the cars, a power of two and the ends of 16 bits.
+fn changed_numbers_for(car: u16, cars: u16) -> Vec<u16> {
+    if usize::from(cars) <= FIRST.cars {
+        return (0..=1040).chain([4096, 32768, u16::MAX]).collect();
+    }
+    let around = [0, 1, 512, 4096, 8192, 32768, cars].map(|number: u16| {
+        let before = number.wrapping_sub(1);
+        [before, number, number + 1]
+    });
+    let one_bit = (0..16).map(|bit| car ^ (1 << bit));
+    one_bit.chain(around.into_iter().flatten()).collect()
 }
 
 fn changed_places(cars: usize) -> Vec<usize> {
@@ -410,7 +438,7 @@ pub fn zero_codes<C: Calls>(tally: &mut Tally) -> Result<(), String> {
             lengths: vec![cars],
             inbound: (1..=cars).collect(),
             tracks: 1,
-            room: 512,
+            room: MOST.room,
             mark: Mark::Open,
         };
         for place in changed_places(usize::from(cars)) {
@@ -434,7 +462,7 @@ fn other_faults<C: Calls>(
         steps: 2,
         codes: codes.to_vec(),
     };
-    for room in [1, 512] {
+    for room in [1, MOST.room] {
         plan.night.room = room;
         for end in [0, codes.len() - 1] {
             for code in [0, 1, 2, 4] {

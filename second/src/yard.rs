@@ -36,14 +36,37 @@ pub struct Yard {
 }
 
 impl Yard {
-    fn empty(plan: Plan) -> Yard {
-        Yard {
+    /// The yard after the first roll-in of a plan whose lists are sound and whose codes are below 2^h.
+    pub fn rolled_in(plan: Plan) -> Yard {
+        let mut yard = Yard {
             tracks: vec![Vec::new(); plan.night.tracks],
             destinations: vec![Vec::new(); plan.night.lengths.len()],
             passes: 0,
             barred: plan.night.mark == Mark::Closed,
             turned_away: Vec::new(),
+        };
+        for &car in plan.night.inbound {
+            yard.roll_in(plan, car, 0);
         }
+        yard
+    }
+
+    /// The lowest car that a barred destination turned away.
+    pub fn turned_away(&self) -> Option<u16> {
+        self.turned_away.iter().copied().min()
+    }
+
+    /// Pulls the cars of a step and rolls them in again, unless one of them is pulled early; hands back how many were pulled.
+    pub fn take_step(&mut self, plan: Plan, step: usize) -> (usize, Option<EarlyPull>) {
+        let pulled = self.pull(plan, step);
+        let cars = pulled.len();
+        let early = first_early(plan, &pulled, step);
+        if early.is_none() {
+            for car in pulled {
+                self.roll_in(plan, car, step + 1);
+            }
+        }
+        (cars, early)
     }
 
     /// One car over the hump, bound for its first step from `from` on, or its destination.
@@ -88,12 +111,9 @@ pub struct Replay {
 impl Replay {
     /// Replays a plan whose lists are sound and whose codes are below 2^h.
     pub fn of(plan: Plan) -> Replay {
-        let mut yard = Yard::empty(plan);
-        for &car in plan.night.inbound {
-            yard.roll_in(plan, car, 0);
-        }
+        let yard = Yard::rolled_in(plan);
         let mut replay = Replay {
-            turned_away: yard.turned_away.iter().copied().min(),
+            turned_away: yard.turned_away(),
             stages: vec![yard],
             pulls: Vec::new(),
             early: None,
@@ -114,13 +134,10 @@ impl Replay {
 
     fn take_step(&mut self, plan: Plan, step: usize) {
         let mut yard = self.stages[step].clone();
-        let pulled = yard.pull(plan, step);
-        self.pulls.push(pulled.len());
-        self.early = first_early(plan, &pulled, step);
-        if self.early.is_none() {
-            for car in pulled {
-                yard.roll_in(plan, car, step + 1);
-            }
+        let (cars, early) = yard.take_step(plan, step);
+        self.pulls.push(cars);
+        self.early = early;
+        if early.is_none() {
             self.stages.push(yard);
         }
     }
@@ -167,17 +184,30 @@ fn first_early(plan: Plan, pulled: &[u16], step: usize) -> Option<EarlyPull> {
 ///
 /// This looks at the built trains alone; the rule on codes is not used.
 pub fn first_out_of_order(lengths: &[u16], built: &[Vec<u16>]) -> Option<u16> {
+    let places = places_in(built);
     let mut first_car = 1;
-    for (train, &length) in lengths.iter().enumerate() {
+    for &length in lengths {
         let next_train = first_car + length;
         for car in first_car + 1..next_train {
-            if place_of(&built[train], car) < place_of(&built[train], car - 1) {
+            if places[usize::from(car)] < places[usize::from(car) - 1] {
                 return Some(car);
             }
         }
         first_car = next_train;
     }
     None
+}
+
+/// By the numbers of the cars, of which each stands in one of these lists: its place there, from 0.
+pub fn places_in<List: AsRef<[u16]>>(lists: &[List]) -> Vec<usize> {
+    let cars: usize = lists.iter().map(|list| list.as_ref().len()).sum();
+    let mut places = vec![0; cars + 1];
+    for list in lists {
+        for (place, &car) in list.as_ref().iter().enumerate() {
+            places[usize::from(car)] = place;
+        }
+    }
+    places
 }
 
 /// Where a car stands in a list that holds it, from 0.

@@ -1,6 +1,7 @@
 //! The fewest passes for given steps: nights worked out by hand, the two searches beside each other, and laws.
 
 use second::answers::{refuse, Refusal};
+use second::counts::FIRST;
 use second::nights::{any_night, block_orders, lightest_plan, night_of, orders, OwnNight};
 use second::passes::{code_lists, go_car_by_car, try_all_lists};
 use second::random::Random;
@@ -145,7 +146,10 @@ fn both_searches_find_the_same_in_random_nights() {
         let mark = random.pick(&MARKS);
         let (cars, steps) = random.pick(&[(4, 4), (5, 3), (6, 2), (8, 2)]);
         let trains = random.within(1..=3);
-        searches_agree(night_of(&mut random, mark, cars, trains).lend(), steps);
+        searches_agree(
+            night_of(&mut random, mark, cars, trains, FIRST).lend(),
+            steps,
+        );
     }
 }
 
@@ -194,7 +198,7 @@ fn each_random_night(count: u64, mut visit: impl FnMut(&mut Random, &OwnNight)) 
         let mut random = Random::new(1040, trial);
         let night = OwnNight {
             room: 512,
-            ..any_night(&mut random)
+            ..any_night(&mut random, FIRST)
         };
         visit(&mut random, &night);
     }

@@ -1,14 +1,18 @@
 //! The harness itself: it passes the idiomatic calls, and finds faults put into them.
 
 use second::answers::{refuse, Answer, CardAnswer, PriceAnswer, Timings};
+use second::big_nights::{big_nights, counts_on_cards, edition_corners};
+use second::cards::{self, pack};
+use second::counts::{FIRST, MOST};
 use second::idiomatic::Idiomatic;
 use second::random::Random;
+use second::reference::test_counts;
 use second::steps::breaks_before;
 use second::tally::Tally;
 use second::trials::{
     paper_nights, small_nights, table_trial, trial, tried_nights, zero_codes, Bench, Nights,
 };
-use second::{Calls, Mark, Night, OpenPlan, Plan};
+use second::{Calls, Mark, Night, Plan};
 use std::iter::repeat_n;
 
 const SEED: u64 = 7;
@@ -28,6 +32,13 @@ fn run<C: Calls>(tally: &mut Tally) -> Result<(), String> {
     Ok(())
 }
 
+/// The cards at the edges of the editions, and the biggest nights.
+fn run_big<C: Calls>(tally: &mut Tally) -> Result<(), String> {
+    edition_corners::<C>(tally)?;
+    counts_on_cards::<C>(tally)?;
+    big_nights::<C>(tally)
+}
+
 /// The fewest passes of a few cars in up to three steps, with every list tried.
 fn try_lists<C: Calls>(tally: &mut Tally) -> Result<(), String> {
     for cars in 1..=3 {
@@ -43,6 +54,7 @@ fn idiomatic_calls_answer_as_the_reference_does() {
     assert_eq!(small_nights::<Idiomatic>(&mut tally, 3), Ok(()));
     assert_eq!(paper_nights::<Idiomatic>(&mut tally), Ok(()));
     assert_eq!(zero_codes::<Idiomatic>(&mut tally), Ok(()));
+    assert_eq!(run_big::<Idiomatic>(&mut tally), Ok(()));
     assert_eq!(try_lists::<Idiomatic>(&mut tally), Ok(()));
     assert!(tally.total() > 6 * TRIALS);
 }
@@ -91,6 +103,19 @@ const ROOM_BEFORE_STEPS: usize = 40;
 const FOUND_AND_REFUSED: usize = 41;
 const ONE_FOUND_CODE_MORE: usize = 42;
 const ONE_PASS_FEWER: usize = 43;
+const SMALL_CLOSED_ON_EDITION_1: usize = 44;
+const EDITION_2_FOR_ALL: usize = 45;
+const WRONG_EDITION_READ: usize = 46;
+const WRONG_EDITION_BEFORE_END: usize = 47;
+const CLOSED_READ_AS_OPEN: usize = 48;
+const EDITION_1_BEYOND_ITS_RANGES: usize = 49;
+const FOUND_BEYOND_FIRST_RANGES: usize = 50;
+const SORTED_BY_EIGHT_BITS: usize = 51;
+const NO_MORE_THAN_EIGHT_STEPS: usize = 52;
+const NO_MORE_THAN_SEVENTEEN_STEPS_TOLD: usize = 53;
+const PRICE_IN_32_BITS: usize = 54;
+const TRACKS_OF_THE_LOW_BYTE: usize = 55;
+const PASSES_IN_16_BITS: usize = 56;
 
 /// The idiomatic calls with one fault.
 struct Faulty<const FAULT: usize>;
@@ -122,6 +147,10 @@ impl<const FAULT: usize> Calls for Faulty<FAULT> {
         };
         let mut answer = Idiomatic::derive(night, limit, codes);
         match FAULT {
+            NO_MORE_THAN_EIGHT_STEPS if limit > 8 && answer.number == 0 && answer.a > 8 => {
+                return refuse(5, answer.a).into();
+            }
+            NO_MORE_THAN_SEVENTEEN_STEPS_TOLD if answer.number == 5 => answer.a = answer.a.min(17),
             STEPS_OF_OPEN if answer.number == 5 => {
                 answer.a -= usize::from(night.mark == Mark::Closed);
             }
@@ -144,6 +173,7 @@ impl<const FAULT: usize> Calls for Faulty<FAULT> {
         let mut answer = check_zero_codes::<FAULT>(plan);
         match (FAULT, answer.number) {
             (ONE_PASS_MORE, 0) => answer.a += 1,
+            (PASSES_IN_16_BITS, 0) => answer.a %= 65_536,
             (ROOM_BEFORE_EARLY, 8) => {
                 let room = plan.night.room;
                 let pulled = |step: usize| {
@@ -179,8 +209,9 @@ impl<const FAULT: usize> Calls for Faulty<FAULT> {
             }
             (REFUSED_AND_WRITTEN, 6) => at[0] = at[0].wrapping_add(1),
             (ZERO_CODE_REPLAYED, 14) => {
-                return Idiomatic::replay(plan.opened().plan(), stage, on, at);
+                return Idiomatic::replay(plan.opened(), stage, on, at);
             }
+            (SORTED_BY_EIGHT_BITS, 0) if stage > 8 => stand_by_eight_bits(plan, on, at),
             _ => (),
         }
         answer
@@ -199,15 +230,46 @@ impl<const FAULT: usize> Calls for Faulty<FAULT> {
             }
             (COUNTS_WHEN_REFUSED, 12) => answer.steps = usize::from(card[0] % 16),
             (CARD_TAKEN_FOR_CLOSED, 0) | (MARK_WHEN_REFUSED, 12) => answer.mark = 1,
+            (CLOSED_READ_AS_OPEN, 0) => answer.mark = 0,
+            (WRONG_EDITION_READ, 17) => {
+                // Closed, the same card is of the right edition.
+                let closed = [&[card[0] | 8], &card[1..]].concat();
+                answer = Idiomatic::read(&closed, lengths, inbound, codes);
+                answer.mark = 0;
+            }
+            (WRONG_EDITION_BEFORE_END, 12) => {
+                let cut = Idiomatic::read(&card[..answer.a], lengths, inbound, codes);
+                answer = if cut.number == 17 { cut } else { answer };
+            }
+            (EDITION_1_BEYOND_ITS_RANGES, 1) if card[0] / 16 == 1 => {
+                answer = CardAnswer::from(refuse(10, 5))
+            }
             _ => (),
         }
         answer
     }
 
-    fn write(plan: OpenPlan, card: &mut [u8]) -> Answer {
+    fn write(plan: Plan, card: &mut [u8]) -> Answer {
         let answer = Idiomatic::write(plan, card);
-        if FAULT == ONE_BYTE_MORE && answer.number == 0 && card.len() > answer.a {
-            card[answer.a] = 0;
+        if answer.number != 0 {
+            return answer;
+        }
+        match FAULT {
+            ONE_BYTE_MORE if card.len() > answer.a => card[answer.a] = 0,
+            SMALL_CLOSED_ON_EDITION_1 => {
+                let fits = test_counts(plan.night.counts(plan.steps), FIRST).is_ok();
+                if fits {
+                    return Idiomatic::write(plan.opened(), card);
+                }
+            }
+            EDITION_2_FOR_ALL => {
+                let bytes = pack(&cards::SECOND, plan);
+                if let Some(part) = card.get_mut(..bytes.len()) {
+                    part.copy_from_slice(&bytes);
+                    return Answer::done(bytes.len(), 0);
+                }
+            }
+            _ => (),
         }
         answer
     }
@@ -217,18 +279,38 @@ impl<const FAULT: usize> Calls for Faulty<FAULT> {
         if FAULT == NEGATIVE_ZERO && answer.number == 13 {
             answer.price = -0.0;
         }
+        if FAULT == PRICE_IN_32_BITS && answer.number == 0 {
+            answer.price = f64::from((answer.price * 16.0) as u64 as u32) / 16.0;
+        }
         answer
     }
 
-    fn fewest_tracks(code: u8) -> usize {
+    fn fewest_tracks(code: u16) -> usize {
         let is_wrong = FAULT == WRONG_ENTRY && code == 128;
+        let code = match FAULT {
+            TRACKS_OF_THE_LOW_BYTE => code % 256,
+            _ => code,
+        };
         Idiomatic::fewest_tracks(code) - usize::from(is_wrong)
+    }
+}
+
+/// Places as if the cars stood by the lowest eight bits of their codes, then as they came in.
+fn stand_by_eight_bits(plan: Plan, on: &[u16], at: &mut [u16]) {
+    let mut order = plan.night.inbound.to_vec();
+    order.sort_by_key(|&car| plan.codes[usize::from(car) - 1] % 256);
+    let mut standing = vec![0; MOST.tracks + MOST.trains];
+    for car in order {
+        let car = usize::from(car) - 1;
+        let end = &mut standing[usize::from(on[car])];
+        at[car] = *end;
+        *end += 1;
     }
 }
 
 /// The idiomatic check with a fault in what it says of zero codes in closed nights.
 fn check_zero_codes<const FAULT: usize>(plan: Plan) -> Answer {
-    let open = Idiomatic::check(plan.opened().plan());
+    let open = Idiomatic::check(plan.opened());
     let mut answer = Idiomatic::check(plan);
     let is_zero = |&code: &u16| code == 0;
     let first_zero = plan.codes.iter().position(is_zero);
@@ -275,6 +357,7 @@ fn other_codes<const FAULT: usize>(night: Night, steps: usize, codes: &mut [u16]
     };
     let answer = Idiomatic::fewest_passes(asked, steps, codes);
     match answer.number {
+        1 if FAULT == FOUND_BEYOND_FIRST_RANGES => Idiomatic::derive(night, steps, codes),
         0 => found_fault::<FAULT>(night, steps, codes, answer),
         _ => refused_fault::<FAULT>(night, steps, codes, answer),
     }
@@ -502,4 +585,26 @@ fn faults_of_cards_prices_and_the_table_are_found() {
     is_found::<ONE_BYTE_MORE>();
     is_found::<NEGATIVE_ZERO>();
     is_found::<WRONG_ENTRY>();
+    is_found::<PRICE_IN_32_BITS>();
+    is_found::<TRACKS_OF_THE_LOW_BYTE>();
+}
+
+#[test]
+fn faults_of_bigger_nights_are_found() {
+    is_found::<FOUND_BEYOND_FIRST_RANGES>();
+    is_found::<SORTED_BY_EIGHT_BITS>();
+    is_found::<NO_MORE_THAN_EIGHT_STEPS>();
+    is_found::<NO_MORE_THAN_SEVENTEEN_STEPS_TOLD>();
+    let found = run_big::<Faulty<PASSES_IN_16_BITS>>(&mut Tally::default());
+    assert!(found.is_err(), "passes in 16 bits are not found");
+}
+
+#[test]
+fn faults_of_the_editions_are_found() {
+    is_found::<SMALL_CLOSED_ON_EDITION_1>();
+    is_found::<EDITION_2_FOR_ALL>();
+    is_found::<WRONG_EDITION_READ>();
+    is_found::<WRONG_EDITION_BEFORE_END>();
+    is_found::<CLOSED_READ_AS_OPEN>();
+    is_found::<EDITION_1_BEYOND_ITS_RANGES>();
 }

@@ -62,6 +62,8 @@ fn the_price_is_steps_times_pull_plus_passes_times_push() {
         push: 4096.0,
     };
     assert_eq!(price(8, 4608, dearest), Ok(18_907_136.0));
+    // 69,648 times 4096: in sixteenths more than 32 bits hold.
+    assert_eq!(price(16, 69_632, dearest), Ok(285_278_208.0));
 }
 
 #[test]
@@ -70,6 +72,6 @@ fn a_free_night_costs_positive_zero() {
         pull: 0.0,
         push: 0.0,
     };
-    let answer = price_answer(&price(8, 4608, timings));
+    let answer = price_answer(&price(16, 69_632, timings));
     assert_eq!((answer.number, answer.price.to_bits()), (0, 0));
 }

@@ -1,8 +1,10 @@
 //! The order of refusals: an input with every fault, mended one fault at a time.
 
 use second::answers::{Refusal, Timings};
+use second::cards::write;
+use second::counts::{Counts, FIRST, MOST};
 use second::passes::{go_car_by_car, try_all_lists};
-use second::reference::{check, derive, fewest_passes, price, replay, write, Derived};
+use second::reference::{check, derive, fewest_passes, price, replay, Derived};
 use second::{Mark, Night, Plan};
 
 /// A plan that owns its lists, so that one fault after the other can be mended.
@@ -24,9 +26,9 @@ impl Faulty {
             lengths: vec![],
             inbound: vec![],
             codes: vec![],
-            tracks: 9,
+            tracks: 17,
             room: 0,
-            steps: 9,
+            steps: 17,
             mark: Mark::Closed,
         }
     }
@@ -174,10 +176,10 @@ fn replay_tests_the_same_but_not_9() {
     counts.tracks = 1;
     counts.room = 1;
     expect("replay", run(&counts, 10, 0, 0), (1, 5, 0));
-    counts.steps = 8;
-    expect("replay", run(&counts, 9, 0, 0), (1, 6, 0));
+    counts.steps = 16;
+    expect("replay", run(&counts, 17, 0, 0), (1, 6, 0));
     expect("replay", run(&counts, usize::MAX, 0, 0), (1, 6, 0));
-    expect("replay", run(&counts, 8, 0, 0), (2, 1, 0));
+    expect("replay", run(&counts, 16, 0, 0), (2, 1, 0));
     plan.codes = vec![9; 5];
     expect("replay", run(&plan, 2, 3, 3), (4, 3, 0));
     plan.codes = vec![9; 4];
@@ -190,52 +192,86 @@ fn replay_tests_the_same_but_not_9() {
 
 #[test]
 fn write_tests_1_2_3_4_7_4() {
-    let run = |it: &Faulty, card_len| write(it.plan().opened(), card_len).err();
+    let run = |it: &Faulty, card_len| write(it.plan(), card_len).err();
     let mut plan = mend_the_night("write", &|it| run(it, 0));
     plan.codes = vec![4; 5];
     expect("write", run(&plan, 0), (4, 3, 0));
     plan.codes = vec![2, 3, 2, 4];
     expect("write", run(&plan, 0), (7, 4, 0));
     plan.codes = vec![2, 3, 2, 2];
-    // 39 bits, two lengths, four cars and four codes of two bits: 107 bits in 14 bytes.
+    // 50 bits, two lengths and four cars of 13, and four codes of two bits: 136 bits in 17 bytes.
+    expect("write", run(&plan, 16), (4, 6, 0));
+    assert_eq!(run(&plan, 17), None);
+    plan.mark = Mark::Open;
+    // 39 bits, two lengths and four cars of 10, and four codes of two bits: 107 bits in 14 bytes.
     expect("write", run(&plan, 13), (4, 6, 0));
     assert_eq!(run(&plan, 14), None);
     assert_eq!(run(&plan, 15), None);
 }
 
-#[test]
-fn the_ends_of_every_range_are_accepted() {
-    let inbound: Vec<u16> = (1..=512).collect();
-    let mut lengths = vec![8; 64];
-    for (tracks, room, limit) in [(1, 1, 0), (8, 512, 8)] {
-        let night = Night {
-            lengths: &lengths,
-            inbound: &inbound,
-            tracks,
-            room,
-            mark: Mark::Open,
-        };
-        assert!(derive(night, limit, 512).is_ok());
-    }
-    lengths.push(1);
+/// A call that finds codes, given a night in order with these counts.
+fn find_in_order(
+    counts: Counts,
+    find: impl Fn(Night, usize, usize) -> Result<Derived, Refusal>,
+) -> Option<Refusal> {
+    let mut lengths = vec![1; counts.trains];
+    lengths[0] += counts.cars.abs_diff(counts.trains) as u16;
     let night = Night {
         lengths: &lengths,
-        inbound: &inbound,
-        tracks: 8,
-        room: 512,
+        inbound: &(1..=counts.cars as u16).collect::<Vec<u16>>(),
+        tracks: counts.tracks,
+        room: counts.room,
         mark: Mark::Open,
     };
-    expect("derive", derive(night, 8, 512).err(), (1, 2, 0));
-    let more: Vec<u16> = (1..=513).collect();
-    let longer = Night {
-        inbound: &more,
-        ..night
+    find(night, counts.steps, counts.cars).err()
+}
+
+/// A count made one too large, and A of the refusal that then comes.
+type Beyond = (fn(&mut Counts), usize);
+
+/// The ends of the ranges are accepted, and each count just beyond them is refused.
+fn keeps_ranges(
+    call: &str,
+    most: Counts,
+    find: impl Fn(Night, usize, usize) -> Result<Derived, Refusal>,
+) {
+    let least = Counts {
+        cars: 1,
+        trains: 1,
+        tracks: 1,
+        room: 1,
+        steps: 0,
     };
-    expect("derive", derive(longer, 8, 513).err(), (1, 1, 0));
+    assert_eq!(find_in_order(least, &find), None, "{call}");
+    assert_eq!(find_in_order(most, &find), None, "{call}");
+    let beyond: [Beyond; 5] = [
+        (|counts| counts.cars += 1, 1),
+        (|counts| counts.trains += 1, 2),
+        (|counts| counts.tracks += 1, 3),
+        (|counts| counts.room += 1, 4),
+        (|counts| counts.steps += 1, 5),
+    ];
+    for (change, a) in beyond {
+        let mut counts = most;
+        change(&mut counts);
+        expect(call, find_in_order(counts, &find), (1, a, 0));
+    }
 }
 
 #[test]
-fn counts_just_out_of_range_are_refused() {
+fn derive_keeps_the_ranges_of_bigger_nights() {
+    keeps_ranges("derive", MOST, derive);
+}
+
+#[test]
+fn the_fewest_passes_keep_the_first_ranges() {
+    keeps_ranges("fewest passes", FIRST, |night, steps, codes_len| {
+        fewest_passes(night, steps, codes_len, go_car_by_car)
+    });
+}
+
+#[test]
+fn counts_far_out_of_range_are_refused() {
     let sound = Night {
         lengths: &[2],
         inbound: &[1, 2],
@@ -243,15 +279,15 @@ fn counts_just_out_of_range_are_refused() {
         room: 1,
         mark: Mark::Open,
     };
-    for tracks in [0, 9, 257, usize::MAX] {
+    for tracks in [0, 17, 257, usize::MAX] {
         let night = Night { tracks, ..sound };
         expect("derive", derive(night, 0, 2).err(), (1, 3, 0));
     }
-    for room in [0, 513, 65537, usize::MAX] {
+    for room in [0, 4097, 65537, usize::MAX] {
         let night = Night { room, ..sound };
         expect("derive", derive(night, 0, 2).err(), (1, 4, 0));
     }
-    for limit in [9, 256, usize::MAX] {
+    for limit in [17, 256, usize::MAX] {
         expect("derive", derive(sound, limit, 2).err(), (1, 5, 0));
     }
     assert!(derive(sound, 0, 2).is_ok());
@@ -272,9 +308,9 @@ fn a_length_list_is_summed_beyond_16_bits() {
 #[test]
 fn price_tests_1_then_13() {
     let run = |steps, passes, pull, push| price(steps, passes, Timings { pull, push }).err();
-    expect("price", run(9, 4609, -1.0, f64::NAN), (1, 5, 0));
-    expect("price", run(8, 4609, -1.0, f64::NAN), (1, 7, 0));
-    expect("price", run(8, 4608, -1.0, f64::NAN), (13, 1, 0));
-    expect("price", run(8, 4608, 1.0, f64::NAN), (13, 2, 0));
-    assert_eq!(run(8, 4608, 1.0, 1.0), None);
+    expect("price", run(17, 69_633, -1.0, f64::NAN), (1, 5, 0));
+    expect("price", run(16, 69_633, -1.0, f64::NAN), (1, 7, 0));
+    expect("price", run(16, 69_632, -1.0, f64::NAN), (13, 1, 0));
+    expect("price", run(16, 69_632, 1.0, f64::NAN), (13, 2, 0));
+    assert_eq!(run(16, 69_632, 1.0, 1.0), None);
 }

@@ -241,6 +241,55 @@ fn reversed_trains_closed_take_a_step_more_at_the_edge() {
     assert_eq!(derived(closed(open)), Err(refusal(5, 512, 0)));
 }
 
+#[test]
+fn reversed_trains_take_as_many_steps_as_ranges_allow() {
+    let steps = |cars, tracks| {
+        let inbound = reversed(cars);
+        let lengths = [cars];
+        let open = night(&lengths, &inbound, tracks, 4096);
+        [open, closed(open)].map(|night| {
+            let found = derive(night, 16, usize::from(cars));
+            found
+                .map(|found| found.steps)
+                .map_err(|refusal| (refusal.number, refusal.a))
+        })
+    };
+    assert_eq!(steps(257, 8), [Ok(9), Ok(9)]);
+    assert_eq!(steps(4095, 16), [Ok(12), Ok(12)]);
+    assert_eq!(steps(4096, 16), [Ok(12), Ok(13)]);
+    // F(15) is 2583 on two tracks, F(16) 4180.
+    assert_eq!(steps(2583, 2), [Ok(15), Ok(16)]);
+    assert_eq!(steps(4096, 2), [Ok(16), Ok(16)]);
+    // F(16) is 17 on one track.
+    assert_eq!(steps(16, 1), [Ok(15), Ok(16)]);
+    assert_eq!(steps(17, 1), [Ok(16), Err((5, 17))]);
+    assert_eq!(steps(4096, 1), [Err((5, 4095)), Err((5, 4096))]);
+}
+
+#[test]
+fn every_car_in_every_step_makes_the_most_passes() {
+    let inbound: Vec<u16> = (1..=4096).collect();
+    for night in [
+        night(&[16; 256], &inbound, 1, 4096),
+        night(&[4096], &inbound, 1, 4096),
+    ] {
+        for night in [night, closed(night)] {
+            let plan = Plan {
+                night,
+                steps: 16,
+                codes: &[u16::MAX; 4096],
+            };
+            let most = Checked {
+                passes: 69_632,
+                fullest: 4096,
+            };
+            assert_eq!(check(plan), Ok(most));
+            let staged = replay(plan, 9, 4096, 4096).map(|staged| staged.passes);
+            assert_eq!(staged, Ok(4096 + 9 * 4096));
+        }
+    }
+}
+
 /// What check and replay say of N on two tracks in three steps with these codes, open and closed.
 fn both_say(codes: &[u16], open: Option<Refusal>, closed_too: Refusal) {
     let with = |night| Plan {
@@ -271,7 +320,7 @@ fn the_first_zero_code_in_car_order_is_told() {
         codes: &[1, 0, 0, 1, 1, 0],
     };
     assert_eq!(check(plan), Err(refusal(14, 2, 0)));
-    assert!(check(plan.opened().plan()).is_ok());
+    assert!(check(plan.opened()).is_ok());
 }
 
 #[test]

@@ -1,10 +1,13 @@
-//! Compares the library with the reference, call by call, on nights made from a seed.
+//! Compares the library with the reference, call by call, on nights made from a seed; built without the library, the
+//! idiomatic calls.
 //!
 //! `compare --seed N --count M` runs M trials; `--first K` begins at trial K, so that the
 //! trial in which a call failed can be run again alone.
 
 use second::arguments::Arguments;
+use second::big_nights::{big_nights, counts_on_cards, edition_corners};
 use second::idiomatic::Idiomatic;
+#[cfg(feature = "library")]
 use second::library::Library;
 use second::random::Random;
 use second::tally::Tally;
@@ -16,6 +19,12 @@ use second::Calls;
 use std::env;
 use std::process::ExitCode;
 use std::time::Instant;
+
+/// What is compared in full: without the library, the idiomatic calls.
+#[cfg(feature = "library")]
+type Compared = Library;
+#[cfg(not(feature = "library"))]
+type Compared = Idiomatic;
 
 /// Orders of up to four cars are run through in full.
 const SMALL_CARS: u16 = 4;
@@ -54,18 +63,21 @@ fn run_asked_for(given: impl Iterator<Item = String>) -> Result<Run, String> {
     })
 }
 
-/// The idiomatic calls in a quick pass, then the library in full, then what was reached.
+/// The idiomatic calls in a quick pass, where the library is there, then all in full, then what was reached.
 fn compare_all(run: Run) -> Result<(), String> {
     let quick = Run {
         count: run.count / 20,
         ..run
     };
-    compare::<Idiomatic>(quick, &mut Tally::default())?;
+    if cfg!(feature = "library") {
+        compare::<Idiomatic>(quick, &mut Tally::default())?;
+    }
     let mut tally = Tally::default();
     if run.first.is_none() {
-        compare_tried::<Library>(&mut tally)?;
+        compare_tried::<Compared>(&mut tally)?;
+        compare_big::<Compared>(&mut tally)?;
     }
-    compare::<Library>(run, &mut tally)?;
+    compare::<Compared>(run, &mut tally)?;
     print!("{}", tally.table());
     println!("{} calls, no difference (seed {})", tally.total(), run.seed);
     let missing = tally.never_reached();
@@ -106,6 +118,16 @@ fn compare_tried<C: Calls>(tally: &mut Tally) -> Result<(), String> {
     }
     tried_nights::<C>(tally, &Nights::in_blocks(5), 3)?;
     report_progress::<C>("every list of codes for up to five cars", tally, began);
+    Ok(())
+}
+
+/// Nights of up to 4,096 cars and the edges of the editions.
+fn compare_big<C: Calls>(tally: &mut Tally) -> Result<(), String> {
+    let began = Instant::now();
+    edition_corners::<C>(tally)?;
+    counts_on_cards::<C>(tally)?;
+    big_nights::<C>(tally)?;
+    report_progress::<C>("big nights and cards at the edges", tally, began);
     Ok(())
 }
 

@@ -1,18 +1,22 @@
 //! Measures the library beside the idiomatic calls, in one run and on the same nights.
 
 use second::answers::{Answer, CardAnswer};
+use second::counts::{Counts, FIRST, MOST};
 use second::idiomatic::Idiomatic;
 use second::library::Library;
-use second::nights::{derived_plan, night_of, train_with_breaks, whole_card, OwnNight, OwnPlan};
+use second::nights::{derived_within, night_of, train_with_breaks, whole_card, OwnNight, OwnPlan};
 use second::random::Random;
-use second::reference;
 use second::{Calls, Mark};
 use std::hint::black_box;
+use std::iter::repeat_with;
 use std::time::{Duration, Instant};
 
+/// Cars of the nights within document 01's ranges; the bigger ones have as many as there may be.
 const SIZES: [usize; 3] = [8, 64, 512];
 /// Different nights for each size, so that no branch is learnt by heart.
 const NIGHTS: usize = 128;
+/// As many cars in all as the nights of 512 have.
+const BIG_NIGHTS: usize = 16;
 /// Each call is timed in many short rounds; the quickest counts as its time, the others were disturbed.
 const ROUNDS: usize = 501;
 const ROUND: Duration = Duration::from_micros(200);
@@ -20,6 +24,7 @@ const ROUND: Duration = Duration::from_micros(200);
 /// One night with all that the calls read and write.
 struct Work {
     plan: OwnPlan,
+    limit: usize,
     stage: usize,
     /// What the fewest passes are asked for: as many steps as the night needs and two to spare, at most eight.
     steps: usize,
@@ -33,44 +38,60 @@ struct Work {
 }
 
 impl Work {
-    /// A night whose derived plan keeps to eight steps, so that every call is done.
-    fn any(random: &mut Random, mark: Mark, cars: usize) -> Work {
-        let mut plan = any_accepted(random, mark, cars);
-        while reference::check(plan.lend()).is_err() {
-            plan = any_accepted(random, mark, cars);
+    /// A night whose derived plan keeps to the steps of these ranges, so that every call is done.
+    fn any(random: &mut Random, mark: Mark, cars: usize, most: Counts) -> Work {
+        loop {
+            let night = any_few_trains(random, mark, cars, most);
+            if let Some(plan) = derived_within(&night, most.steps) {
+                return Work::of(random, plan, most);
+            }
         }
-        Work::of(random, plan)
     }
 
-    fn of(random: &mut Random, plan: OwnPlan) -> Work {
+    /// A night of one train with so many breaks that it needs sixteen steps on two tracks.
+    fn with_many_steps(random: &mut Random, mark: Mark) -> Work {
+        let breaks = random.within(2583..=MOST.cars - 1);
+        let night = OwnNight {
+            tracks: 2,
+            room: MOST.room,
+            mark,
+            ..train_with_breaks(random, MOST.cars, breaks)
+        };
+        let plan = derived_within(&night, MOST.steps).expect("sixteen steps have 4180 codes");
+        assert_eq!(plan.steps, MOST.steps);
+        Work::of(random, plan, MOST)
+    }
+
+    fn of(random: &mut Random, plan: OwnPlan, most: Counts) -> Work {
         let cars = plan.codes.len();
+        let card = whole_card(&plan);
         Work {
+            limit: most.steps,
             stage: random.within(0..=plan.steps),
-            steps: (plan.steps + 2).min(8),
-            card: whole_card(&plan),
-            lengths: vec![0; 64],
+            steps: (plan.steps + 2).min(FIRST.steps),
+            lengths: vec![0; most.trains],
             inbound: vec![0; cars],
             codes: vec![0; cars],
             on: vec![0; cars],
             at: vec![0; cars],
-            bytes: vec![0; 1237],
+            bytes: vec![0; card.len()],
+            card,
             plan,
         }
     }
 }
 
-/// A plan on three to eight tracks for a night of a few trains.
-fn any_accepted(random: &mut Random, mark: Mark, cars: usize) -> OwnPlan {
+/// A night of a few trains on three or more tracks.
+fn any_few_trains(random: &mut Random, mark: Mark, cars: usize, most: Counts) -> OwnNight {
     let trains = random.within(1..=8);
-    let night = OwnNight {
-        tracks: random.within(3..=8),
-        ..night_of(random, mark, cars, trains)
-    };
-    derived_plan(&night)
+    OwnNight {
+        tracks: random.within(3..=most.tracks),
+        ..night_of(random, mark, cars, trains, most)
+    }
 }
 
 /// What is called and measured.
-#[derive(Clone, Copy)]
+#[derive(Clone, Copy, PartialEq)]
 enum Job {
     Derive,
     Check,
@@ -80,8 +101,7 @@ enum Job {
     FewestPasses,
 }
 
-/// The jobs in the order of the table, with the names of their rows, by the mark of their nights: a card holds no
-/// closed one.
+/// The jobs in the order of the table, with the names of their rows, by the mark of their nights.
 const JOBS: [(Mark, &[(&str, Job)]); 2] = [
     (
         Mark::Open,
@@ -100,6 +120,8 @@ const JOBS: [(Mark, &[(&str, Job)]); 2] = [
             ("derive-closed", Job::Derive),
             ("check-closed", Job::Check),
             ("replay-closed", Job::Replay),
+            ("read-closed", Job::Read),
+            ("write-closed", Job::Write),
             ("fewest-passes-closed", Job::FewestPasses),
         ],
     ),
@@ -110,7 +132,7 @@ fn call<C: Calls>(job: Job, work: &mut Work) {
     // What is lent comes from memory that was written long ago, as it does for a caller with a night at hand.
     let plan = black_box(&work.plan).lend();
     match job {
-        Job::Derive => done(C::derive(plan.night, 8, &mut work.codes)),
+        Job::Derive => done(C::derive(plan.night, work.limit, &mut work.codes)),
         Job::Check => done(C::check(plan)),
         Job::Replay => done(C::replay(plan, work.stage, &mut work.on, &mut work.at)),
         Job::Read => read(C::read(
@@ -119,7 +141,7 @@ fn call<C: Calls>(job: Job, work: &mut Work) {
             &mut work.inbound,
             &mut work.codes,
         )),
-        Job::Write => done(C::write(plan.opened(), &mut work.bytes)),
+        Job::Write => done(C::write(plan, &mut work.bytes)),
         Job::FewestPasses => done(C::fewest_passes(plan.night, work.steps, &mut work.codes)),
     }
 }
@@ -133,7 +155,7 @@ fn read(told: impl Into<CardAnswer>) {
     assert_eq!(black_box(told.into().number), 0);
 }
 
-/// Seconds for all nights once, by the quickest round; and how many times the idiomatic calls' time the library takes, in
+/// Seconds for a night, on average over all of them, by the quickest round; and how many times the idiomatic calls' time the library takes, in
 /// the middle of all pairs of neighbouring rounds.
 struct Times {
     library: f64,
@@ -168,7 +190,7 @@ fn times(job: Job, works: &mut [Work]) -> Times {
     best
 }
 
-/// Seconds for all nights once, on average over one round.
+/// Seconds for a night, on average over one round.
 fn round<C: Calls>(job: Job, works: &mut [Work]) -> f64 {
     let began = Instant::now();
     let mut turns = 0;
@@ -178,16 +200,16 @@ fn round<C: Calls>(job: Job, works: &mut [Work]) -> f64 {
         }
         turns += 1;
     }
-    began.elapsed().as_secs_f64() / f64::from(turns)
+    began.elapsed().as_secs_f64() / f64::from(turns) / works.len() as f64
 }
 
-fn row(name: &str, cars: usize, times: &Times) -> String {
-    let nights = NIGHTS as f64;
-    let a_car = |seconds: f64| seconds * 1e9 / nights / cars as f64;
+fn row(name: &str, works: &[Work], times: &Times) -> String {
+    let cars = works[0].plan.codes.len();
+    let a_car = |seconds: f64| seconds * 1e9 / cars as f64;
     format!(
         "| {name} | {cars} | {:.0} | {:.0} | {:.2} | {:.2} | {:.2} |",
-        nights / times.library,
-        nights / times.idiomatic,
+        1.0 / times.library,
+        1.0 / times.idiomatic,
         a_car(times.library),
         a_car(times.idiomatic),
         times.ratio
@@ -196,14 +218,23 @@ fn row(name: &str, cars: usize, times: &Times) -> String {
 
 fn main() {
     let mut random = Random::new(1, 0);
-    println!("{NIGHTS} nights of each size, the quickest of {ROUNDS} rounds; the ratio is the middle one of neighbouring rounds.\n");
+    let mut big_random = Random::new(1, 1);
+    println!("{NIGHTS} nights of each size, {BIG_NIGHTS} of {} cars, the quickest of {ROUNDS} rounds; the ratio is the middle one of neighbouring rounds.\n", MOST.cars);
     println!("| call | cars | library nights/s | idiomatic nights/s | library ns/car | idiomatic ns/car | library/idiomatic |");
     println!("|---|---|---|---|---|---|---|");
     let mut growth = Vec::new();
     for (mark, jobs) in JOBS {
         let mut by_size = SIZES.map(|cars| any_works(&mut random, mark, cars));
+        let mut big = any_big_works(&mut big_random, mark);
         for &(name, job) in jobs {
-            growth.push((name, print_rows(name, job, &mut by_size)));
+            let rows = by_size.iter_mut().map(|works| print_row(name, job, works));
+            let mut all: Vec<Times> = rows.collect();
+            // The fewest passes keep document 01's ranges.
+            if job != Job::FewestPasses {
+                all.push(print_row(name, job, &mut big.any));
+                print_row(&format!("{name}-steps"), job, &mut big.with_many_steps);
+            }
+            growth.push((name, all));
         }
     }
     let longest = print_longest_row(&mut random);
@@ -212,8 +243,24 @@ fn main() {
 }
 
 fn any_works(random: &mut Random, mark: Mark, cars: usize) -> Vec<Work> {
-    let any = || Work::any(random, mark, cars);
-    std::iter::repeat_with(any).take(NIGHTS).collect()
+    let any = || Work::any(random, mark, cars, FIRST);
+    repeat_with(any).take(NIGHTS).collect()
+}
+
+/// Nights of 4,096 cars: like the smaller ones, and with many steps on few tracks.
+struct BigWorks {
+    any: Vec<Work>,
+    with_many_steps: Vec<Work>,
+}
+
+fn any_big_works(random: &mut Random, mark: Mark) -> BigWorks {
+    let any = repeat_with(|| Work::any(random, mark, MOST.cars, MOST));
+    let any = any.take(BIG_NIGHTS).collect();
+    let with_many_steps = repeat_with(|| Work::with_many_steps(random, mark));
+    BigWorks {
+        any,
+        with_many_steps: with_many_steps.take(BIG_NIGHTS).collect(),
+    }
 }
 
 const LONGEST_CARS: usize = 512;
@@ -224,19 +271,17 @@ const LONGEST_BREAKS: usize = 200;
 fn print_longest_row(random: &mut Random) -> Times {
     let long = || {
         let night = train_with_breaks(random, LONGEST_CARS, LONGEST_BREAKS);
-        let work = Work::of(random, derived_plan(&night));
-        assert_eq!(work.steps, 8);
-        work
+        let plan = derived_within(&night, FIRST.steps).expect("eight steps have 256 codes");
+        assert_eq!(plan.steps, FIRST.steps);
+        Work::of(random, plan, FIRST)
     };
-    let mut works: Vec<Work> = std::iter::repeat_with(long).take(NIGHTS).collect();
-    let measured = times(Job::FewestPasses, &mut works);
-    println!("{}", row("fewest-passes-breaks", LONGEST_CARS, &measured));
-    measured
+    let mut works: Vec<Work> = repeat_with(long).take(NIGHTS).collect();
+    print_row("fewest-passes-breaks", Job::FewestPasses, &mut works)
 }
 
 /// Microseconds say at once whether a call keeps within its millisecond.
 fn print_longest_time(measured: &Times) {
-    let a_night = |seconds: f64| seconds * 1e6 / NIGHTS as f64;
+    let a_night = |seconds: f64| seconds * 1e6;
     println!(
         "\nThe fewest passes of {LONGEST_CARS} cars in one train with {LONGEST_BREAKS} breaks, 8 tracks and 8 steps, \
          take the library {:.1} microseconds, the idiomatic program {:.1}.",
@@ -245,24 +290,25 @@ fn print_longest_time(measured: &Times) {
     );
 }
 
-/// Measures a call for each size and prints its rows.
-fn print_rows(name: &str, job: Job, by_size: &mut [Vec<Work>; 3]) -> Vec<Times> {
-    let mut all = Vec::new();
-    for (cars, works) in SIZES.into_iter().zip(by_size) {
-        let measured = times(job, works);
-        println!("{}", row(name, cars, &measured));
-        all.push(measured);
-    }
-    all
+/// Measures a call on these nights, all of one size, and prints its row.
+fn print_row(name: &str, job: Job, works: &mut [Work]) -> Times {
+    let measured = times(job, works);
+    println!("{}", row(name, works, &measured));
+    measured
 }
 
-/// How the cost of a night grows with eight times the cars; 8 is growth in step with them.
+/// How the cost of a night grows with eight times the cars; 8 is growth in step with them. The biggest nights have more tracks
+/// and steps as well.
 fn print_growth(growth: &[(&str, Vec<Times>)]) {
-    println!("\n| call | library, 64 to 512 cars | idiomatic, 64 to 512 cars |");
-    println!("|---|---|---|");
+    println!("\n| call | library, 64 to 512 cars | idiomatic, 64 to 512 cars | library, 512 to 4096 cars | idiomatic, 512 to 4096 cars |");
+    println!("|---|---|---|---|---|");
     for (name, all) in growth {
-        let library = all[2].library / all[1].library;
-        let idiomatic = all[2].idiomatic / all[1].idiomatic;
-        println!("| {name} | {library:.1} | {idiomatic:.1} |");
+        let mut cells = String::new();
+        for pair in all[1..].windows(2) {
+            let library = pair[1].library / pair[0].library;
+            let idiomatic = pair[1].idiomatic / pair[0].idiomatic;
+            cells += &format!(" {library:.1} | {idiomatic:.1} |");
+        }
+        println!("| {name} |{cells}");
     }
 }

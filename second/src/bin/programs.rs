@@ -1,11 +1,14 @@
 //! Compares what `nightcard` and `nightplan` put out with what the paper makes of a card.
 
 use second::arguments::Arguments;
-use second::nights::OwnNight;
-use second::nights::{any_card, any_night, any_plan, derived_plan, trial_nights, whole_card};
+use second::counts::{FIRST, LONGEST_CARD, MOST};
+use second::nights::{
+    all_bits, any_card, any_night, any_plan, any_ranges, derived_plan, one_train,
+};
+use second::nights::{trial_nights, whole_card, OwnNight, OwnPlan};
 use second::programs::{nightcard, nightplan};
 use second::random::Random;
-use second::Mark;
+use second::MARKS;
 use std::env;
 use std::io::{self, Write};
 use std::process::{Command, ExitCode, Stdio};
@@ -45,30 +48,57 @@ fn compare(given: impl Iterator<Item = String>) -> Result<usize, String> {
     Ok(cards.len())
 }
 
-/// The cards of the trial nights, then sound and damaged ones from the seed.
+/// The cards of the trial nights and the longest ones, then sound and damaged ones from the seed.
 fn cards(seed: u64, count: u64) -> Vec<Vec<u8>> {
     let mut cards = Vec::new();
     for (lengths, inbound) in trial_nights() {
-        for room in [2, 3, 512] {
-            let night = OwnNight {
-                lengths: lengths.clone(),
-                inbound: inbound.clone(),
-                tracks: 2,
-                room,
-                mark: Mark::Open,
-            };
-            cards.push(whole_card(&derived_plan(&night)));
+        for room in [2, 3, FIRST.room, MOST.room] {
+            for mark in MARKS {
+                let night = OwnNight {
+                    lengths: lengths.clone(),
+                    inbound: inbound.clone(),
+                    tracks: 2,
+                    room,
+                    mark,
+                };
+                cards.push(whole_card(&derived_plan(&night)));
+            }
         }
     }
+    cards.extend(longest_cards());
     for trial in 0..count {
         let mut random = Random::new(seed, trial);
-        let night = any_night(&mut random);
+        let most = any_ranges(&mut random);
+        let night = any_night(&mut random, most);
         let plan = any_plan(&mut random, &night);
         let card = match random.chance(50) {
             true => whole_card(&plan),
             false => any_card(&mut random, &plan),
         };
         cards.push(card);
+    }
+    cards
+}
+
+/// The longest card, open and closed, whole, a byte short, and with more bytes behind it than any card has.
+fn longest_cards() -> Vec<Vec<u8>> {
+    let mut cards = Vec::new();
+    for mark in MARKS {
+        let night = OwnNight {
+            lengths: vec![16; MOST.trains],
+            mark,
+            ..one_train(&[1; MOST.cars])
+        };
+        let card = whole_card(&OwnPlan {
+            steps: MOST.steps,
+            codes: vec![all_bits(MOST.steps); MOST.cars],
+            night,
+        });
+        for len in [-1, 0, 1, 2, 4096, 100_000] {
+            let mut other = card.clone();
+            other.resize(LONGEST_CARD.saturating_add_signed(len), 0);
+            cards.push(other);
+        }
     }
     cards
 }
