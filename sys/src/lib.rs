@@ -306,7 +306,7 @@ pub fn read(
     call!(altairpeg_read reads [card] counts [] writes [lengths, inbound, codes])
 }
 
-/// Writes the night card of a plan: edition 1 where that can hold it, else edition 2.
+/// Writes the night card of a plan: edition 1 where its night is open and all its counts keep the first ranges, else edition 2.
 #[inline]
 pub fn write(plan: Plan, card: &mut [u8]) -> Answer {
     call!(altairpeg_write

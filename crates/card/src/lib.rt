@@ -1,4 +1,4 @@
-// The night card of document 01: its reader and its writer.
+// The night card in both editions: its reader and its writer.
 use bits::fields;
 use yard::Answer;
 use yard::CardAnswer;

@@ -6,7 +6,7 @@ ghost use Rattle.yard.specs.Limits.{firstLimits};
 ghost use Rattle.choice.specs.Choice.{Cheapest, picksMost, Choosable};
 ghost use Rattle.choice.specs.Rows.{together, Row, spareOf, Table, reached};
 
-// The numbers of the most steps.
+// The numbers of document 01's most steps.
 const NUMBERS: usize = 1 << yard::FIRST_STEPS;
 
 // The most places of the table of picks; they are `picksMost` (specs/Choice.antt).

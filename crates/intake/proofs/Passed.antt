@@ -1,28 +1,21 @@
 -- What callers learn from the answers of this crate: which counts are not refused.
 use mathlib.Core.Path.{_≡_, refl}
 use mathlib.Core.Logic.{_↔_}
-use mathlib.Core.Bool.{_&&_}
 use mathlib.Core.List.{List}
-use Prim.Native.Nat.{ℕ, _≤_}
-use lib.Dec.{leb}
+use Prim.Native.Nat.{ℕ}
 use Rattle.yard.specs.declared.Answer.{Answer}
 use Rattle.yard.specs.declared.Limits.{Limits}
-use Rattle.yard.specs.Answers.{says, verdict, countTest}
+use Rattle.yard.specs.Answers.{says, verdict}
 use Rattle.yard.specs.Calls.{countTests}
 use Rattle.yard.specs.Demands.{InLimits}
-use Rattle.yard.proofs.general.Bools.{not-so}
 use Rattle.yard.proofs.calls.Verdict.{Passed, verdict-passes}
 use Rattle.yard.proofs.calls.Tests.{counts-passed}
-use Rattle.scan.proofs.Range.{between}
 
 -- an answer that only tests is 0 exactly if every test is passed
-pub tests-passed : (tests : List Answer) → (verdict tests (says 0 0 0) .number ≡ 0) ↔ Passed tests
+tests-passed : (tests : List Answer) → (verdict tests (says 0 0 0) .number ≡ 0) ↔ Passed tests
 tests-passed tests =
     let both = verdict-passes tests (says 0 0 0) in
     (λ e. both .0 e .0, λ p. both .1 (p, refl))
-
-pub count-refused : (a low high x : ℕ) → ((low ≤ x) × (x ≤ high) → ⊥) → countTest a low high x ≡ says 1 a 0
-count-refused a low high x out = rw (not-so (leb low x && leb x high) (λ t. out (between low x high t)))
 
 pub counts-within : (L : Limits) (n m W C h : ℕ) → (verdict (countTests L n m W C h) (says 0 0 0) .number ≡ 0) ↔ InLimits L n m W C h
 counts-within L n m W C h =

@@ -1,4 +1,3 @@
--- The laws on which the proofs of this crate rest, and in `Passed` those that its callers need.
+-- The laws on which the proofs of this crate rest.
 pub mod Wide
 pub mod Zero
-pub mod Passed

@@ -1,4 +1,4 @@
-// Check: a plan offered by anyone is accepted exactly if its replay is good, its lists and codes being well formed.
+// Check and replay: a plan offered by anyone is accepted exactly if its replay is good, its lists and codes being well formed.
 use yard::Answer;
 use yard::Counts;
 ghost use mathlib.Core.Path.{_≡_};

@@ -1,4 +1,4 @@
--- The written meaning of document 01: definitions only. Laws about them stand in proofs/.
+-- The written meaning of documents 01 and 02: definitions only. Laws about them stand in proofs/.
 pub mod Words
 pub mod Limits
 pub mod Night

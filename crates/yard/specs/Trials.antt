@@ -13,7 +13,7 @@ use Rattle.yard.specs.Codes.{F, fewestTracks}
 use Rattle.yard.specs.Derived.{derivedCodes, derivedPlan}
 use Rattle.yard.specs.Answers.{written}
 use Rattle.yard.specs.Calls.{deriveAnswer, checkAnswer, replayAnswer}
-use Rattle.yard.specs.Card.{editionOf, card, readerVerdict}
+use Rattle.yard.specs.Card.{editionFor, editionOf, card, readerVerdict}
 
 -- a trial's case, what the meaning says, and what the document says
 pub record Trial : Type 0 where
@@ -149,6 +149,7 @@ requests =
     trial 108 (derives (reversed 18 1) 16) (5 ∷ 17 ∷ 0 ∷ []) ∷
     trial 108 (map (F 2) (upFrom 8 9)) (88 ∷ 143 ∷ 232 ∷ 376 ∷ 609 ∷ 986 ∷ 1596 ∷ 2583 ∷ 4180 ∷ []) ∷
     trial 108 (map (fewestTracks 16) (128 ∷ 255 ∷ 256 ∷ 257 ∷ 32768 ∷ 65535 ∷ [])) (8 ∷ 1 ∷ 9 ∷ 8 ∷ 16 ∷ 1 ∷ []) ∷
+    trial 108 (editionFor false 512 64 8 512 8 ∷ editionFor false 513 64 8 512 8 ∷ editionFor false 512 65 8 512 8 ∷ []) (1 ∷ 2 ∷ 2 ∷ []) ∷
     trial 108 (map (λ C. editionOf (plan (nightN 8 C) 8 [])) (512 ∷ 513 ∷ [])) (1 ∷ 2 ∷ []) ∷
     trial 108 (editionOf (plan (nightN 9 3) 2 []) ∷ editionOf (plan (nightN 8 3) 9 []) ∷ editionOf (plan (closed (nightN 2 3)) 2 []) ∷ []) (2 ∷ 2 ∷ 2 ∷ []) ∷
     trial 108 (card (derivedPlan (closed (nightN 2 3)))) closedCard ∷

@@ -14,7 +14,7 @@ pub const STEPS: usize = 16;
 pub const PASSES: usize = 69632;
 
 // Document 01's, those of `firstLimits`: cards of edition 1 and the fewest passes keep them. A night within them is worked on in smaller arrays,
-// so that it costs no more than before.
+// since to clear the larger ones would cost it more than the rest.
 pub const FIRST_CARS: usize = 512;
 
 pub const FIRST_TRAINS: usize = 64;
