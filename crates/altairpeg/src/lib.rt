@@ -1,6 +1,8 @@
 // The face: every public call under one roof, under the names by which C, Rust and Python link it.
 // None asks anything of its caller, and each promise is that of the call behind it, word for word. include/altairpeg.h tells the same to C.
 // A mark comes from C as a number: 0 is open, and any other is closed, so that no number is left without a meaning.
+#![tactic(auto)]
+
 ghost use Rattle.std.specs.Prelude.{◌≡◌};
 ghost use Rattle.yard.specs.Night.{plan_given, night_given, closed_by};
 ghost use Rattle.yard.specs.Limits.{limits};

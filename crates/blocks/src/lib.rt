@@ -1,5 +1,7 @@
 // The codes for the blocks of the trains: of the codes that a night allows those with which all cars together have the fewest set bits, and
 // of those the smallest, car by car.
+#![tactic(auto)]
+
 ghost use Rattle.std.specs.Prelude.{map, ◌^◌, ◌≤◌, length};
 ghost use Rattle.std.specs.Int.Count.{ones};
 ghost use Rattle.yard.specs.Codes.{allowed_codes};

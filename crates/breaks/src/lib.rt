@@ -1,4 +1,6 @@
 // The breaks of a night: how many come before each car in its train, and the most in one train.
+#![tactic(auto)]
+
 ghost use Rattle.std.specs.Prelude.{◌≤◌, ◌<◌, length};
 ghost use Rattle.yard.specs.Limits.{limits};
 ghost use Rattle.yard.specs.Demands.{Listed};

@@ -1,4 +1,6 @@
 // The night card in both editions: its reader and its writer.
+#![tactic(auto)]
+
 ghost use Rattle.std.specs.Prelude.{◌≡◌, ◌≤◌, length};
 ghost use Rattle.yard.specs.Night.{plan_given};
 ghost use Rattle.yard.specs.Card.{head_on, reader_says, Reads, Writes};

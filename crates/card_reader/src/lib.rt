@@ -1,4 +1,6 @@
 // The reader's tests, in document 01's order.
+#![tactic(auto)]
+
 ghost use Rattle.std.specs.Prelude.{◌≡◌, ◌≤◌, length};
 ghost use Rattle.yard.specs.Answers.{says, verdict};
 ghost use Rattle.yard.specs.Card.{known, head_on, reader_verdict};

@@ -1,4 +1,6 @@
 // Reads the card of document 01 from its input, then one of edition 2, writes each back, and tries what the reader refuses: a line for each.
+#![tactic(auto)]
+
 ghost use Rattle.std.specs.Prelude.{◌≤◌, length};
 
 // The same card, for the trials.

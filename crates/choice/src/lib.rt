@@ -1,4 +1,6 @@
 // The cheapest rising choice of numbers for the blocks of a train, and of those the one that is smallest at the first block where they differ.
+#![tactic(auto)]
+
 ghost use Rattle.std.specs.Prelude.{◌≡◌, ℕ, suc, ◌+◌, ◌*◌, ◌^◌, ◌≤◌, ◌<◌, length, get_or};
 ghost use Rattle.yard.specs.Limits.{first_limits};
 ghost use Rattle.choice.specs.Choice.{Cheapest, picks_most, Choosable};

@@ -1,4 +1,6 @@
 // Usable codes: the fewest tracks of a code, the fewest steps for a number of breaks, and the usable codes in rising order.
+#![tactic(auto)]
+
 ghost use Rattle.std.specs.Prelude.{◌≡◌, ◌++◌, map, ◌+◌, ◌≤◌, ◌<◌, ◌^◌, length, take, drop};
 ghost use Rattle.std.specs.Int.Count.{count_leading_zeros, count_trailing_zeros};
 ghost use Rattle.yard.specs.Limits.{limits, first_limits};

@@ -1,4 +1,6 @@
 // From a night and a step limit to the one derived plan: its steps, its passes, and the code of each car.
+#![tactic(auto)]
+
 ghost use Rattle.std.specs.Prelude.{◌≡◌, false, map, ◌*◌, ◌≤◌, length, get_or};
 ghost use Rattle.yard.specs.Codes.{code_number};
 ghost use Rattle.yard.specs.Derived.{steps_needed, derived_plan};

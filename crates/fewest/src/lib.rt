@@ -1,5 +1,7 @@
 // The fewest passes for a given number of steps: of all codes that build the trains those with the fewest set bits, and of those the
 // list that is smallest at the first differing car.
+#![tactic(auto)]
+
 ghost use Rattle.std.specs.Prelude.{length};
 ghost use Rattle.yard.specs.Limits.{first_limits};
 ghost use Rattle.yard.specs.Night.{night_of, night_given};

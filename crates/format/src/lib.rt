@@ -1,4 +1,6 @@
 // The format of a card in numbers: the widths of its edition's fields, and where its lists stand.
+#![tactic(auto)]
+
 ghost use Rattle.std.specs.Prelude.{◌≡◌};
 ghost use Rattle.yard.specs.Night.{sum};
 ghost use Rattle.yard.specs.Card.{limits_of, head_widths, head_length, card_length, fits_first, edition_for};

@@ -1,4 +1,6 @@
 // The tests of what comes from outside: counts, and the lengths of lists and buffers, each answered as document 01 says.
+#![tactic(auto)]
+
 ghost use Rattle.std.specs.Prelude.{◌≡◌, ◌&&◌, ◌∷◌, [], ◌++◌, ◌^◌, ◌≤◌, leb, length, take, drop};
 ghost use Rattle.yard.specs.Limits.{limits, first_limits};
 ghost use Rattle.yard.specs.Answers.{says, test, verdict, count_test, list_test};

@@ -1,4 +1,6 @@
 // Document 01's lines, put into a buffer.
+#![tactic(auto)]
+
 mod text; // text.rt: pieces of text, one behind the other
 
 ghost use Rattle.std.specs.Prelude.{◌+◌, ◌≤◌, ◌<◌, ◌≡◌, length};

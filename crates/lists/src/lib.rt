@@ -1,4 +1,6 @@
 // The tests of the lists that come from outside: trains, the inbound list and codes, each answered as document 01 says.
+#![tactic(auto)]
+
 ghost use Rattle.std.specs.Prelude.{◌≡◌, ◌≤◌, length};
 ghost use Rattle.yard.specs.Limits.{limits};
 ghost use Rattle.yard.specs.Answers.{says, verdict, train_test, sum_test, first_listing, inbound_test, code_test, zero_test};

@@ -1,4 +1,6 @@
 // The inbound list has each car once: a mark for each car met tells the first place with a number out of range or met before.
+#![tactic(auto)]
+
 ghost use Rattle.std.specs.Prelude.{◌≡◌, ◌≤◌, ◌<◌, true, ◌&&◌, leb, length, get_or};
 ghost use Rattle.yard.specs.Words.{every};
 ghost use Rattle.yard.specs.Limits.{limits};

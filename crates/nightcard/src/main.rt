@@ -1,4 +1,6 @@
 // Reads a card on standard input, and prints document 01's lines or the refusal.
+#![tactic(auto)]
+
 fn main() {
     let mut card = [0u8; report::BUFFER];
     let read = report::input(&mut card);

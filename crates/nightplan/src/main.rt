@@ -1,4 +1,6 @@
 // Reads a card on standard input, and writes the card of the derived plan, or prints the refusal.
+#![tactic(auto)]
+
 fn main() {
     let mut card = [0u8; report::BUFFER];
     let read = report::input(&mut card);

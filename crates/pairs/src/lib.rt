@@ -1,4 +1,6 @@
 // The rule on neighbouring pairs, by which trains end in order, and the lowest pair that breaks it.
+#![tactic(auto)]
+
 ghost use Rattle.std.specs.Prelude.{◌≡◌, ◌+◌, ◌-◌, ◌≤◌, ◌<◌, length};
 ghost use Rattle.yard.specs.Words.{first, tally, total, up_from};
 ghost use Rattle.yard.specs.Answers.{ruled};

@@ -1,4 +1,6 @@
 // Check and replay: a plan offered by anyone is accepted exactly if its replay is good, its lists and codes being well formed.
+#![tactic(auto)]
+
 ghost use Rattle.std.specs.Prelude.{◌≡◌, ◌∷◌, [], ◌+◌, ◌≤◌, length};
 ghost use Rattle.yard.specs.Limits.{limits};
 ghost use Rattle.yard.specs.Night.{plan_given};

@@ -1,4 +1,6 @@
 // The price of a night: the timings are tested and reckoned in whole sixteenths of a second, and the price is converted once, at the end.
+#![tactic(auto)]
+
 ghost use Rattle.std.specs.Prelude.{◌≡◌, ◌+◌, ◌*◌, ◌^◌, ◌<◌, if◌then◌else◌};
 ghost use Rattle.yard.specs.Answers.{says};
 ghost use Rattle.yard.specs.Price as meaning;

@@ -1,4 +1,5 @@
 // Runs the edges of document 01's price through the call: a line for each, with the number, A, B and the double's bits.
+#![tactic(auto)]
 
 // A double's bits, and none for not-a-number, which has many patterns.
 fn bits(x: f64) -> u64 {

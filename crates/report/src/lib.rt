@@ -1,4 +1,6 @@
 // What the two programs put out for a card: document 01's lines, and the card of the derived plan.
+#![tactic(auto)]
+
 mod edge; // edge.rt: the programs' reading and writing
 
 ghost use Rattle.std.specs.Prelude.{length};

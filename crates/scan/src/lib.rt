@@ -1,4 +1,6 @@
 // One pass over a list of numbers: its sum, its largest item, a number that no item is, its first place, and the first item that is too large.
+#![tactic(auto)]
+
 ghost use Rattle.std.specs.Prelude.{◌≡◌, max, ◌≤◌, not, leb, eqb, length};
 ghost use Rattle.yard.specs.Limits.{limits};
 ghost use Rattle.yard.specs.Words.{tally, most, every, first};

@@ -1,4 +1,6 @@
 // What a replay does, worked out from the codes: passes, pulls and the first early pull.
+#![tactic(auto)]
+
 pub mod early;
 
 ghost use Rattle.std.specs.Prelude.{◌≡◌, ◌+◌, ◌/◌, ◌%◌, ◌^◌, ◌≤◌, ◌<◌, length};

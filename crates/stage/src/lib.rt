@@ -1,4 +1,6 @@
 // Each car's track and place at a stage, from its code and the order in which the cars stand.
+#![tactic(auto)]
+
 ghost use Rattle.std.specs.Prelude.{◌≡◌, map, ◌≤◌, ◌<◌, length, get_or, replicate};
 ghost use Rattle.yard.specs.Limits.{limits};
 ghost use Rattle.yard.specs.Night.{cars, item_of};

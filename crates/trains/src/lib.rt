@@ -1,4 +1,6 @@
 // The trains of a night: where each ends among the cars, the place of each car in the inbound list, and which pairs are breaks.
+#![tactic(auto)]
+
 ghost use Rattle.std.specs.Prelude.{◌≡◌, map, ◌≤◌, ◌<◌, length};
 ghost use Rattle.yard.specs.Limits.{limits};
 ghost use Rattle.yard.specs.Words.{place};

@@ -1,6 +1,8 @@
 // Runs trial nights of document 01, and nights of document 02's requests, through derive, check and replay to a stage: a line for
 // each, with the number, A, B and what then stands at the front of each lent buffer.
 // The buffers hold 77 everywhere before each call.
+#![tactic(auto)]
+
 ghost use Rattle.std.specs.Prelude.{◌≤◌, length};
 
 use yard::Answer;

@@ -1,4 +1,5 @@
 // What the yard is told: the answers of the calls, as document 01 has them, and its limits. The meaning of each stands in specs/.
+#![tactic(auto)]
 
 // The most cars, trains, sorting tracks, cars on a track, steps, and passes of a priced night. They are those of `limits` (specs/Limits.antt).
 pub const CARS: usize = 4096;

@@ -59,9 +59,13 @@ module _ (k : ℕ) (small : k < 2 ^ 53) where
 
 -- ---- A double is a timing exactly if it is the double worth k sixteenths for some k up to 65,536.
 pub value-worth : (x : Float) (k : ℕ) → HasValue x false k 16 → sixteenths x ≡ k
+value-worth nan k v = elim v [ ]
+value-worth (inf _) k v = elim v [ ]
 value-worth (fin s m e) k v = ap (λ (n : ℕ). n / down e) v.1 ∙ mul-div_cancel k (down_pos e)
 
 pub value-timing : (x : Float) (k : ℕ) → HasValue x false k 16 → k ≤ 4096 * 16 → timing x ≡ true
+value-timing nan k v h = elim v [ ]
+value-timing (inf _) k v h = elim v [ ]
 value-timing (fin true m e) k v h = absurd (true≢false v.0)
 value-timing (fin false m e) k v h =
     and_both

@@ -6,7 +6,7 @@ use mathlib.Core.Path.{◌≡◌, refl, sym, ap, ◌∙◌}
 use mathlib.Core.Logic.{⊎_elim}
 use mathlib.Core.Bool.{Bool, true, false, not, ◌&&◌, ◌||◌, cond}
 use lib.Dec.{T, leb, ltb, eqb}
-use lib.Ieee.{Float, fin, Format, prec, low, hid, top, up, down, size, unlike, below, level, round, mul, lt, eq, le, fits, is_nan, to_bits, of_bits}
+use lib.Ieee.{Float, nan, inf, fin, Format, prec, low, hid, top, up, down, size, unlike, below, level, round, mul, lt, eq, le, fits, is_nan, to_bits, of_bits}
 use lib.Ieee.Fits.{down_pos}
 use lib.Ieee.Exact.{HasValue}
 use lib.Ieee.Nearest.{div_same}
@@ -22,6 +22,8 @@ bits_at f s n = cond s (top f) 0 + (size n - prec f) * hid f + n / 2 ^ (size n -
 
 bits_of : (f : Format) (x : Float) (s : Bool) (a c : ℕ) → 0 < c → HasValue x s a c → to_bits f x ≡ bits_at f s (a * 2 ^ low f / c)
 unfolding to_bits
+bits_of f nan s a c C v = elim v [ ]
+bits_of f (inf _) s a c C v = elim v [ ]
 bits_of f (fin t m e) s a c C v =
     let l = 2 ^ low f in
     let same : m * up e * l * c ≡ a * l * down e = mul_right_comm (m * up e) l c ∙ ap (λ (z : ℕ). z * l) v.1 ∙ mul_right_comm a (down e) l in
@@ -33,11 +35,17 @@ value-unique f x y s a c C p q v w =
 
 pub value-number : (x : Float) (s : Bool) (a c : ℕ) → HasValue x s a c → T (not (is_nan x))
 unfolding is_nan
+value-number nan s a c v = elim v [ ]
+value-number (inf _) s a c v = elim v [ ]
 value-number (fin t m e) s a c v = tt
 
 pub mul-values : (f : Format) (x y : Float) (a c b d : ℕ) → 0 < c → 0 < d → HasValue x false a c → HasValue y false b d
     → mul f x y ≡ round f false (a * b) (c * d)
 unfolding mul
+mul-values f nan y a c b d C D v w = elim v [ ]
+mul-values f (inf _) y a c b d C D v w = elim v [ ]
+mul-values f (fin s m e) nan a c b d C D v w = elim w [ ]
+mul-values f (fin s m e) (inf _) a c b d C D v w = elim w [ ]
 mul-values f (fin s m e) (fin t n g) a c b d C D v w =
     (λ i. round f (unlike (v.0 i) (w.0 i)) (m * up e * (n * up g)) (down e * down g))
     ∙ round_same f false (m * up e * (n * up g)) (down e * down g) (a * b) (c * d) (mul-pos (down_pos e) (down_pos g)) (mul-pos C D)
@@ -76,6 +84,10 @@ Compares doubles numbers = (x y : Float) (a b c : ℕ) → 0 < c → HasValue x 
 
 pub lt-values : Compares lt ltb
 unfolding lt
+lt-values nan y a b c C v w = elim v [ ]
+lt-values (inf _) y a b c C v w = elim v [ ]
+lt-values (fin s m e) nan a b c C v w = elim w [ ]
+lt-values (fin s m e) (inf _) a b c C v w = elim w [ ]
 lt-values (fin s m e) (fin t n g) a b c C v w =
     (λ i. below (v.0 i) (m * up e * down g) (w.0 i) (n * up g * down e))
     ∙ crossed ltb ltb-scales (m * up e) (n * up g) (down e) (down g) a b c (down_pos e) (down_pos g) C v.1 w.1
@@ -86,6 +98,10 @@ and-true false = refl
 
 pub eq-values : Compares eq eqb
 unfolding eq
+eq-values nan y a b c C v w = elim v [ ]
+eq-values (inf _) y a b c C v w = elim v [ ]
+eq-values (fin s m e) nan a b c C v w = elim w [ ]
+eq-values (fin s m e) (inf _) a b c C v w = elim w [ ]
 eq-values (fin s m e) (fin t n g) a b c C v w =
     (λ i. level (v.0 i) (m * up e * down g) (w.0 i) (n * up g * down e))
     ∙ and-true (eqb (m * up e * down g) (n * up g * down e))
