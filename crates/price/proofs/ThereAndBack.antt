@@ -43,6 +43,8 @@ scaled-number (fin s m e) b = tt
 -- a double that is not negative is above -1
 above : (y : Float) (a c : ℕ) → HasValue y false a c → lt (fin true 1 (pos 0)) y ≡ true
 unfolding lt
+above nan a c v = elim v [ ]
+above (inf _) a c v = elim v [ ]
 above (fin true m e) a c v = absurd (true≢false v.0)
 above (fin false m e) a c v = lt-ltb 0 (1 * down e + m * up e * 1) (omega (arith, down_pos e))
 
