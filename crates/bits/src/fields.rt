@@ -4,7 +4,7 @@ ghost use Rattle.bits.specs.Fields.{longest, field_at, fields_at, ends_at};
 ghost use Rattle.bits.specs.Eyes.{place, Sees, Looks, Takes};
 
 // An eye on bytes: the byte that it reads next, and the bits that it holds before that byte, the lowest `held` of a number.
-#[derive(Drop)]
+#[derive(Clone, Copy)]
 pub struct Eye {
     pub next: usize,
     pub held: usize,
@@ -12,7 +12,7 @@ pub struct Eye {
 }
 
 // A number, and the eye behind it.
-#[derive(Drop)]
+#[derive(Clone, Copy)]
 pub struct Taken {
     pub number: usize,
     pub eye: Eye,

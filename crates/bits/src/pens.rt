@@ -4,7 +4,7 @@ ghost use Rattle.yard.specs.Bits.{to_bits, packed};
 ghost use Rattle.bits.specs.Pens.{Ready, Draws};
 
 // A pen over a card: the bytes that it has written, and the bits still pending, the lowest `count` of a number.
-#[derive(Drop)]
+#[derive(Clone, Copy)]
 pub struct Pen {
     pub at: usize,
     pub count: usize,

@@ -20,7 +20,7 @@ pub const CODES: usize = 1 << yard::FIRST_STEPS;
 pub const MOST_CODES: usize = 2 * yard::CARS;
 
 // A part of a list: the index of its first item, and that behind its last.
-#[derive(Drop)]
+#[derive(Clone, Copy)]
 pub struct Part {
     pub from: usize,
     pub to: usize,

@@ -9,7 +9,7 @@ ghost use Rattle.format.specs.Format.{Narrow, Laid, Bounded, places_of};
 use yard::{Head, Layout, Limits};
 
 // Where the lists of a card begin, and where its last field ends, in bits.
-#[derive(Drop)]
+#[derive(Clone, Copy)]
 pub struct Places {
     pub lengths: usize,
     pub inbound: usize,

@@ -6,7 +6,7 @@ ghost use Rattle.yard.specs.Answers.{says};
 ghost use Rattle.yard.specs.Price as meaning;
 
 // What a double is as a timing: so many sixteenths of a second, or not allowed.
-#[derive(Drop)]
+#[derive(Clone, Copy)]
 enum Timing {
     Sixteenths(u64),
     NotAllowed,

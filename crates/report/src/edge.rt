@@ -4,7 +4,7 @@ ghost use Rattle.std.specs.Prelude.{◌≡◌};
 ghost use Rattle.io.specs.Counts.{IsPrefixLen};
 
 // What was read of standard input: so many bytes, and whether it ended there or filled the buffer, or a read failed.
-#[derive(Drop)]
+#[derive(Clone, Copy)]
 pub struct Taken {
     pub whole: bool,
     pub bytes: usize,

@@ -6,7 +6,7 @@ ghost use Rattle.yard.specs.Waiting.{waits};
 ghost use Rattle.sorting.specs.Early.{early_found};
 
 // The first early pull: its step and the lowest car of that step.
-#[derive(Drop)]
+#[derive(Clone, Copy)]
 pub enum Early {
     At(usize, usize),
     Never,

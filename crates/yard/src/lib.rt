@@ -29,7 +29,7 @@ pub const FIRST_STEPS: usize = 8;
 pub const FIRST_PASSES: usize = 4608;
 
 // The limits that a call keeps to: the most of each.
-#[derive(Drop)]
+#[derive(Clone, Copy)]
 pub struct Limits {
     pub cars: usize,
     pub trains: usize,
@@ -42,7 +42,7 @@ pub struct Limits {
 // The counts of a call that no list sets: the sorting tracks, the room on each, and the steps of a plan or the step limit of derive.
 // A caller gives them by name, since three numbers in a row are easily exchanged.
 #[repr(C)]
-#[derive(Drop)]
+#[derive(Clone, Copy)]
 pub struct Counts {
     pub tracks: usize,
     pub room: usize,
@@ -51,7 +51,7 @@ pub struct Counts {
 
 // A number, 0 where all is done, and two details, 0 where unused.
 #[repr(C)]
-#[derive(Drop)]
+#[derive(Clone, Copy)]
 pub struct Answer {
     pub number: usize,
     pub a: usize,
@@ -61,7 +61,7 @@ pub struct Answer {
 // What the card reader tells besides: the card's mark, 0 for open and 1 for closed, its steps, tracks, room, cars and trains, all 0
 // where it refuses.
 #[repr(C)]
-#[derive(Drop)]
+#[derive(Clone, Copy)]
 pub struct CardAnswer {
     pub number: usize,
     pub a: usize,
@@ -76,7 +76,7 @@ pub struct CardAnswer {
 
 // The two timings of a night, kept together: seconds for a pull-out, and seconds to push one car.
 #[repr(C)]
-#[derive(Drop)]
+#[derive(Clone, Copy)]
 pub struct Timings {
     pub pull: f64,
     pub push: f64,
@@ -84,7 +84,7 @@ pub struct Timings {
 
 // What the price of a night is, positive zero where it is refused.
 #[repr(C)]
-#[derive(Drop)]
+#[derive(Clone, Copy)]
 pub struct PriceAnswer {
     pub number: usize,
     pub a: usize,
@@ -94,7 +94,7 @@ pub struct PriceAnswer {
 
 // The widths of a card's fields in bits, by its edition; 0 where an edition has no such field. The edition itself has 4 bits, a code
 // has as many as the plan has steps, and `number` is the width of a train's length and of an inbound number.
-#[derive(Drop)]
+#[derive(Clone, Copy)]
 pub struct Layout {
     pub mark: usize,
     pub steps: usize,
@@ -106,7 +106,7 @@ pub struct Layout {
 }
 
 // The numbers at the head of a card.
-#[derive(Drop)]
+#[derive(Clone, Copy)]
 pub struct Head {
     pub edition: usize,
     pub mark: usize,

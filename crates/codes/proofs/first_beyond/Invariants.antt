@@ -1,0 +1,15 @@
+-- The proof of `first_beyond`: what is left of the search finds what the whole search finds.
+use mathlib.Core.Path.{◌≡◌, ◌∙◌}
+use Prim.Native.Nat.{◌-◌, ◌^◌, ◌≤◌, ◌<◌}
+use native.Mathlib.Omega.{arith}
+use lib.ListN.{length, get_or}
+use borrow.Author.Tests.{lt-ltb, le-ltb}
+use Rattle.yard.specs.Limits.{limits}
+use Rattle.yard.specs.Words.{first}
+use Rattle.yard.specs.Codes.{fewest_tracks}
+use Rattle.scan.proofs.Left.{left-start, left-hits, left-goes, left-ends}
+use Rattle.codes.specs.Wider.{wider, first_wider}
+use Rattle.codes.proofs.first_beyond.Given as goal
+
+abbrev pub invariant-loop-i : goal.invariant-loop-i
+invariant-loop-i l = (l.i ≤ length l.codes) × (first (wider l.tracks l.codes) (length l.codes - l.i) l.i ≡ first_wider l.tracks l.codes)

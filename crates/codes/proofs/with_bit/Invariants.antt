@@ -1,0 +1,16 @@
+-- The proof of `with_bit`: behind the codes stand those passed, with the bit.
+use mathlib.Core.Path.{◌≡◌, refl, sym, ◌∙◌}
+use mathlib.Core.List.{List, ◌++◌, map}
+use Prim.Native.Nat.{ℕ, ◌+◌, ◌-◌, ◌≤◌}
+use native.Mathlib.Nat.{add_assoc}
+use native.Mathlib.Omega.{arith}
+use lib.ListN.{length, get_or, take, drop, length-set, length-drop}
+use lib.Seq.{get_or-drop, length-take-le, take-length}
+use Rattle.scan.specs.Front.{Front}
+use Rattle.scan.proofs.Front.{front-whole, front-first, front-through}
+use Rattle.codes.proofs.with_bit.Given as goal
+
+abbrev pub invariant-loop-k : goal.invariant-loop-k
+invariant-loop-k l =
+    (l.k ≤ l.codes - l.but) × (length l.into ≡ length l.initial.into) × Front (take l.codes l.initial.into ++ map (λ x. l.bit + x) (take l.k (drop l.but (take l.codes l.initial.into)))) l.initial.into
+    (l.codes + l.k) l.into

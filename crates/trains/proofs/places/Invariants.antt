@@ -1,0 +1,14 @@
+-- The proof of `places`: the cars passed have their place, and the rest stays.
+use mathlib.Core.Path.{refl, subst}
+use mathlib.Core.Logic.{inl, inr, ⊎_elim}
+use Prim.Native.Nat.{ℕ, ◌+◌, ◌-◌, ◌≤◌, ◌<◌}
+use native.Mathlib.Omega.{arith}
+use lib.ListN.{length, get_or, set}
+use Rattle.yard.specs.Words.{place}
+use Rattle.yard.specs.Demands.{Within}
+use Rattle.trains.proofs.Filling.{Filled, filled-all, filled_next, item-within, place_at, place-split, place-below}
+use Rattle.trains.proofs.places.Given as goal
+
+abbrev pub invariant-loop-i : goal.invariant-loop-i
+invariant-loop-i l =
+    (l.i ≤ length l.inbound) × Filled (λ car. place car l.inbound) (length l.inbound) (λ car. Within 1 (length l.inbound) car × (place car l.inbound < l.i)) l.initial.into l.into
