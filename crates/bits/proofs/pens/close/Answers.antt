@@ -13,7 +13,7 @@ put-moved-requires c = (omega arith, search rules)
 
 pub loop-moved-init : goal.loop-moved-init
 loop-moved-init c =
-    (refl, draws-none c.put-moved.new.0 c.put-moved.result c.put-moved.ensures.few)
+    (refl, draws-none c.put-moved.new.card c.put-moved.result c.put-moved.ensures.few)
 
 pub one-moved-requires : goal.one-moved-requires
 one-moved-requires c =

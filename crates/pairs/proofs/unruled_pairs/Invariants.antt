@@ -1,0 +1,14 @@
+-- The proof of `unruled_pairs`: the pairs counted are those of the cars passed.
+use mathlib.Core.Path.{◌≡◌, sym, ap, ◌∙◌}
+use Prim.Native.Nat.{ℕ, ◌+◌, ◌-◌, ◌≤◌}
+use native.Mathlib.Nat.{sub_self}
+use native.Mathlib.Omega.{arith}
+use Rattle.yard.specs.Words.{tally, total, up_from}
+use Rattle.pairs.specs.Pairs.{unruled_by}
+use Rattle.scan.proofs.Running.{tally-most}
+use Rattle.pairs.proofs.Pairs.{count_next}
+use Rattle.pairs.proofs.unruled_pairs.Given as goal
+
+abbrev pub invariant-loop-j : goal.invariant-loop-j
+invariant-loop-j l =
+    (l.before + 1 ≤ l.j) × (l.j ≤ l.end) × (l.pairs ≤ l.j) × (l.pairs ≡ total (λ j. tally (unruled_by l.places l.codes j)) (up_from (l.before + 1) (l.j - (l.before + 1))))
