@@ -13,31 +13,79 @@ use Rattle.card_writer.proofs.draw_head.Goals as goal
 
 pub put-mark-requires : goal.put-mark-requires
 put-mark-requires c =
-    (c.layout_of-l.ensures.narrow.mark, stands-ready (edition TODOPLACE_After-put) c.put-edition.ensures.few (omega (arith, room TODOPLACE_After-layout_of)))
+    let l = c.layout_of-l.result in
+    let fits = rw (← c.layout_of-l.ensures.is) at c.requires in
+    let room : 4 + l.mark + l.steps + l.tracks + l.room + l.cars + l.trains ≤ length c.args.card.now * 8 = omega (arith, fits) in
+    let edition = stands-next 4 (stands-first c.args.card.now) c.put-edition.ensures refl c.put-edition.auto.card in
+    (c.layout_of-l.ensures.narrow.mark, stands-ready edition c.put-edition.ensures.few (omega (arith, room)))
 
 pub put-steps-requires : goal.put-steps-requires
 put-steps-requires c =
-    ((laid2 TODOPLACE_After-put2).layout_of.ensures.narrow.steps, stands-ready (mark TODOPLACE_After-put2) c.put-mark.ensures.few (omega (arith, room (laid2 TODOPLACE_After-put2))))
+    let l = c.layout_of-l.result in
+    let fits = rw (← c.layout_of-l.ensures.is) at c.requires in
+    let room : 4 + l.mark + l.steps + l.tracks + l.room + l.cars + l.trains ≤ length c.args.card.now * 8 = omega (arith, fits) in
+    let edition = stands-next 4 (stands-first c.args.card.now) c.put-edition.ensures refl c.put-edition.auto.card in
+    let mark = stands-next l.mark edition c.put-mark.ensures (length-to_bits _ _) c.put-mark.auto.card in
+    (c.layout_of-l.ensures.narrow.steps, stands-ready mark c.put-mark.ensures.few (omega (arith, room)))
 
 pub put-tracks-requires : goal.put-tracks-requires
 put-tracks-requires c =
-    ((laid3 TODOPLACE_After-put3).layout_of.ensures.narrow.tracks, stands-ready (steps TODOPLACE_After-put3) c.put-steps.ensures.few (omega (arith, room (laid3 TODOPLACE_After-put3))))
+    let l = c.layout_of-l.result in
+    let fits = rw (← c.layout_of-l.ensures.is) at c.requires in
+    let room : 4 + l.mark + l.steps + l.tracks + l.room + l.cars + l.trains ≤ length c.args.card.now * 8 = omega (arith, fits) in
+    let edition = stands-next 4 (stands-first c.args.card.now) c.put-edition.ensures refl c.put-edition.auto.card in
+    let mark = stands-next l.mark edition c.put-mark.ensures (length-to_bits _ _) c.put-mark.auto.card in
+    let steps = stands-next l.steps mark c.put-steps.ensures (length-to_bits _ _) c.put-steps.auto.card in
+    (c.layout_of-l.ensures.narrow.tracks, stands-ready steps c.put-steps.ensures.few (omega (arith, room)))
 
 pub put-room-requires : goal.put-room-requires
 put-room-requires c =
-    ((laid4 TODOPLACE_After-put4).layout_of.ensures.narrow.room, stands-ready (tracks TODOPLACE_After-put4) c.put-tracks.ensures.few (omega (arith, room (laid4 TODOPLACE_After-put4))))
+    let l = c.layout_of-l.result in
+    let fits = rw (← c.layout_of-l.ensures.is) at c.requires in
+    let room : 4 + l.mark + l.steps + l.tracks + l.room + l.cars + l.trains ≤ length c.args.card.now * 8 = omega (arith, fits) in
+    let edition = stands-next 4 (stands-first c.args.card.now) c.put-edition.ensures refl c.put-edition.auto.card in
+    let mark = stands-next l.mark edition c.put-mark.ensures (length-to_bits _ _) c.put-mark.auto.card in
+    let steps = stands-next l.steps mark c.put-steps.ensures (length-to_bits _ _) c.put-steps.auto.card in
+    let tracks = stands-next l.tracks steps c.put-tracks.ensures (length-to_bits _ _) c.put-tracks.auto.card in
+    (c.layout_of-l.ensures.narrow.room, stands-ready tracks c.put-tracks.ensures.few (omega (arith, room)))
 
 pub put-cars-requires : goal.put-cars-requires
 put-cars-requires c =
-    ((laid5 TODOPLACE_After-put5).layout_of.ensures.narrow.cars, stands-ready (rooms TODOPLACE_After-put5) c.put-room.ensures.few (omega (arith, room (laid5 TODOPLACE_After-put5))))
+    let l = c.layout_of-l.result in
+    let fits = rw (← c.layout_of-l.ensures.is) at c.requires in
+    let room : 4 + l.mark + l.steps + l.tracks + l.room + l.cars + l.trains ≤ length c.args.card.now * 8 = omega (arith, fits) in
+    let edition = stands-next 4 (stands-first c.args.card.now) c.put-edition.ensures refl c.put-edition.auto.card in
+    let mark = stands-next l.mark edition c.put-mark.ensures (length-to_bits _ _) c.put-mark.auto.card in
+    let steps = stands-next l.steps mark c.put-steps.ensures (length-to_bits _ _) c.put-steps.auto.card in
+    let tracks = stands-next l.tracks steps c.put-tracks.ensures (length-to_bits _ _) c.put-tracks.auto.card in
+    let rooms = stands-next l.room tracks c.put-room.ensures (length-to_bits _ _) c.put-room.auto.card in
+    (c.layout_of-l.ensures.narrow.cars, stands-ready rooms c.put-room.ensures.few (omega (arith, room)))
 
 pub put-requires : goal.put-requires
 put-requires c =
-    ((laid6 TODOPLACE_After-put6).layout_of.ensures.narrow.trains, stands-ready (cars TODOPLACE_After-put6) c.put-cars.ensures.few (omega (arith, room (laid6 TODOPLACE_After-put6))))
+    let l = c.layout_of-l.result in
+    let fits = rw (← c.layout_of-l.ensures.is) at c.requires in
+    let room : 4 + l.mark + l.steps + l.tracks + l.room + l.cars + l.trains ≤ length c.args.card.now * 8 = omega (arith, fits) in
+    let edition = stands-next 4 (stands-first c.args.card.now) c.put-edition.ensures refl c.put-edition.auto.card in
+    let mark = stands-next l.mark edition c.put-mark.ensures (length-to_bits _ _) c.put-mark.auto.card in
+    let steps = stands-next l.steps mark c.put-steps.ensures (length-to_bits _ _) c.put-steps.auto.card in
+    let tracks = stands-next l.tracks steps c.put-tracks.ensures (length-to_bits _ _) c.put-tracks.auto.card in
+    let rooms = stands-next l.room tracks c.put-room.ensures (length-to_bits _ _) c.put-room.auto.card in
+    let cars = stands-next l.cars rooms c.put-cars.ensures (length-to_bits _ _) c.put-cars.auto.card in
+    (c.layout_of-l.ensures.narrow.trains, stands-ready cars c.put-cars.ensures.few (omega (arith, room)))
 
 pub shape_of-card : goal.shape_of-card
 shape_of-card c =
-    omega (arith, (cars TODOPLACE_After-put6).size, c.put.auto.card)
+    let l = c.layout_of-l.result in
+    let fits = rw (← c.layout_of-l.ensures.is) at c.requires in
+    let room : 4 + l.mark + l.steps + l.tracks + l.room + l.cars + l.trains ≤ length c.args.card.now * 8 = omega (arith, fits) in
+    let edition = stands-next 4 (stands-first c.args.card.now) c.put-edition.ensures refl c.put-edition.auto.card in
+    let mark = stands-next l.mark edition c.put-mark.ensures (length-to_bits _ _) c.put-mark.auto.card in
+    let steps = stands-next l.steps mark c.put-steps.ensures (length-to_bits _ _) c.put-steps.auto.card in
+    let tracks = stands-next l.tracks steps c.put-tracks.ensures (length-to_bits _ _) c.put-tracks.auto.card in
+    let rooms = stands-next l.room tracks c.put-room.ensures (length-to_bits _ _) c.put-room.auto.card in
+    let cars = stands-next l.cars rooms c.put-cars.ensures (length-to_bits _ _) c.put-cars.auto.card in
+    omega (arith, cars.size, c.put.auto.card)
 
 pub returns : goal.returns
 returns c =

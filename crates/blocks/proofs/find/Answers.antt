@@ -1,0 +1,44 @@
+-- The proof of `find`: the table that is handed on has the allowed codes.
+use mathlib.Core.Path.{refl, subst, sym}
+use mathlib.Core.List.{List}
+use Prim.Native.Nat.{ℕ, ◌^◌, ◌≤◌}
+use native.Mathlib.Omega.{arith}
+use lib.Pow.{pow_mono}
+use lib.ListN.{length}
+use borrow.Author.Rules.{rules}
+use Rattle.yard.specs.Limits.{first_limits}
+use Rattle.yard.proofs.calls.Larger.{within_more}
+use Rattle.scan.specs.Front.{Under}
+use Rattle.codes.proofs.Steps.{F-le}
+use Rattle.blocks.specs.Trains.{AllBlocked, Coded}
+use Rattle.blocks.proofs.Coding.{allowed-few, allowed-under}
+use Rattle.blocks.proofs.find.Goals as goal
+
+pub slice_bounds-allowed_codes-end : goal.slice_bounds-allowed_codes-end
+slice_bounds-allowed_codes-end c = refl
+
+pub allowed_codes-allowed-requires : goal.allowed_codes-allowed-requires
+allowed_codes-allowed-requires c =
+    let pre = c.requires in (
+      within_more (omega arith) pre.0,
+      omega (arith, pre.1),
+      omega (arith, F-le c.args.tracks c.args.steps, pow_mono pre.1),
+    )
+
+pub give-requires : goal.give-requires
+give-requires c =
+    let args = c.args in
+    let pre = c.requires in
+    subst
+    (λ (l : List ℕ). (length l ≤ 2 ^ first_limits.steps) × Under (2 ^ first_limits.steps) l × AllBlocked args.lengths.now (length l) args.numbers.now)
+    (sym c.allowed_codes-allowed.ensures.listed) (
+      allowed-few args.closed args.tracks args.steps pre.0.0 pre.1,
+      allowed-under args.closed args.tracks args.steps pre.1,
+      pre.2,
+    )
+
+pub returns : goal.returns
+returns c =
+    let args = c.args in
+    subst (λ (l : List ℕ). Coded args.lengths.now l args.numbers.now c.give.new.numbers) c.allowed_codes-allowed.ensures.listed
+    c.give.ensures
