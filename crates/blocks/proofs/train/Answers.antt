@@ -12,22 +12,6 @@ use Rattle.blocks.specs.Trains.{last_of, weights_of}
 use Rattle.blocks.proofs.Weights.{weights-length, weights-part, weights-within, weights-choosable, zeros-size, zeros-part, chosen-train}
 use Rattle.blocks.proofs.train.Goals as goal
 
--- TODO helper over a place
-listed : (c : tie.After-chosen) (rest : List ℕ) →
-    take (blocks (weighed c).before - 0) ((weighed c).weigh.new.1.0 ++ rest) ≡ weights_of (numbers_of (weighed c).before)
-listed c rest =
-    let called = weighed c in
-    let at = called.before in
-    weights-part (numbers_of at) refl called.weigh.last.1.0 rest called.weigh.kept.1.0
-    (zeros-size (numbers_of at) refl (2 ^ first_limits.steps) (few at)) called.weigh.ensures
-
--- TODO helper over a place
-part-long : (c : tie.After-chosen) (rest : List ℕ) →
-    length (take (blocks (weighed c).before - 0) ((weighed c).weigh.new.1.0 ++ rest)) ≤ 2 ^ first_limits.steps
-part-long c rest =
-    let at = (weighed c).before in
-    omega (arith, ap length (listed c rest), weights-length (numbers_of at), few at)
-
 pub weigh-requires : goal.weigh-requires
 weigh-requires c =
     let numbers_of : List ℕ = c.args.numbers.now in
@@ -51,11 +35,18 @@ slice_bounds-choose-end c =
 pub choose-requires : goal.choose-requires
 choose-requires c =
     let numbers_of : List ℕ = c.args.numbers.now in
+    let blocks : ℕ = last_of numbers_of + 1 in
+    let few : blocks ≤ 2 ^ first_limits.steps = omega (arith, c.requires.2.below, c.requires.0.numbers) in
+    let size = zeros-size numbers_of refl (2 ^ first_limits.steps) few in
+    let listed : (rest : List ℕ) → take (blocks - 0) (c.weigh.new.weights ++ rest) ≡ weights_of numbers_of =
+        λ rest. weights-part numbers_of refl _ rest c.weigh.auto.weights size c.weigh.ensures in
+    let long : (rest : List ℕ) → length (take (blocks - 0) (c.weigh.new.weights ++ rest)) ≤ 2 ^ first_limits.steps =
+        λ rest. omega (arith, ap length (listed rest), weights-length numbers_of, few) in
     let pre = c.requires in
     let costs = c.args.costs.now in (
-      subst (λ (l : List ℕ). Choosable l costs) (sym (listed c _)) (weights-choosable numbers_of costs pre.0 pre.2),
+      subst (λ (l : List ℕ). Choosable l costs) (sym (listed _)) (weights-choosable numbers_of costs pre.0 pre.2),
       pre.1,
-      part-long c _,
+      long _,
     )
 
 pub look_up-requires : goal.look_up-requires
@@ -70,6 +61,11 @@ look_up-requires c =
 pub returns : goal.returns
 returns c =
     let numbers_of : List ℕ = c.args.numbers.now in
+    let blocks : ℕ = last_of numbers_of + 1 in
+    let few : blocks ≤ 2 ^ first_limits.steps = omega (arith, c.requires.2.below, c.requires.0.numbers) in
+    let size = zeros-size numbers_of refl (2 ^ first_limits.steps) few in
+    let listed : (rest : List ℕ) → take (blocks - 0) (c.weigh.new.weights ++ rest) ≡ weights_of numbers_of =
+        λ rest. weights-part numbers_of refl _ rest c.weigh.auto.weights size c.weigh.ensures in
     let costs = c.args.costs.now in
-    chosen-train numbers_of refl (length costs) costs c.choose.new.chosen _ _ c.requires.2 (listed TODOPLACE_After-choose-arg2 _)
+    chosen-train numbers_of refl (length costs) costs c.choose.new.chosen _ _ c.requires.2 (listed _)
     c.choose.ensures c.look_up.ensures

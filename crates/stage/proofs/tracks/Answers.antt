@@ -50,7 +50,11 @@ slice_bounds-train_tracks-end c =
     within.1
 
 pub offset_bounds-on-before : goal.offset_bounds-on-before
-offset_bounds-on-before c = mul-train-tracks TODOPLACE_After-end
+offset_bounds-on-before c = 
+    let within : (c.loop-t.before ≤ c.end-end.result) × (c.end-end.result ≤ length c.args.codes.now) × (c.end-end.result ≤ length c.loop-t.on) = let a = c.args in
+    end-within a.lengths.now a.codes.now a.tracks a.steps a.stage a.on.now c.requires
+    c.loop-t-test.true c.loop-t.invariant c.end-end.ensures in
+    omega (arith, within.0, within.1, c.requires.few)
 
 pub slice_bounds-train_tracks-count-in-loop-t : goal.slice_bounds-train_tracks-count-in-loop-t
 slice_bounds-train_tracks-count-in-loop-t c = 

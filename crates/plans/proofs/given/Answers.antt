@@ -9,26 +9,13 @@ use Rattle.yard.proofs.calls.Verdict.{last-is, verdict-append, verdict-nested}
 use Rattle.yard.specs.declared.Answer.{Answer}
 use Rattle.lists.specs.Tests.{list_tests}
 use borrow.Author.Rules.{rules}
-use Rattle.plans.proofs.given.Statement.{statement}
-use Rattle.plans.proofs.given.Tie as tie
+use Rattle.plans.proofs.given.Goals as goal
 
-list-requires : tie.Need-list-requires
-list-requires c κs = search rules
-
-lists-requires : tie.Need-lists-requires
-lists-requires c κs = search rules
-
-unless-requires : tie.Need-unless-requires
-unless-requires c κs = search rules
-
-returns : tie.Need-returns
+pub returns : goal.returns
 returns c =
-    let args = c.before.before.before.before.before.before.args in
+    let args = c.args in
     let tests = list_tests args.lengths.now args.inbound.now in
     let ok = eqb (length args.codes.now) (length args.inbound.now) in
     c.unless.ensures ∙
-    (ap₂ (λ (v w : Answer). verdict (v ∷ []) w) c.before.lists.ensures (c.before.before.list.ensures ∙ last-is ok (says 4 3 0) (suc-ne-zero 3)) ∙
+    (ap₂ (λ (v w : Answer). verdict (v ∷ []) w) c.lists.ensures (c.list-each.ensures ∙ last-is ok (says 4 3 0) (suc-ne-zero 3)) ∙
     (verdict-nested tests (verdict (list_test 3 ok ∷ []) (says 0 0 0)) ∙ sym (verdict-append tests (list_test 3 ok ∷ []) (says 0 0 0))))
-
-pub given-spec : {M : Type 1} → statement M
-given-spec = tie.close (tie.spec list-requires lists-requires unless-requires returns)
