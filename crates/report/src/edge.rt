@@ -3,6 +3,8 @@
 ghost use Rattle.std.specs.Prelude.{◌≡◌};
 ghost use Rattle.io.specs.Counts.{IsPrefixLen};
 
+use std::io::{Input, Print, Read};
+
 // What was read of standard input: so many bytes, and whether it ended there or filled the buffer, or a read failed.
 #[derive(Clone, Copy)]
 pub struct Taken {
@@ -12,28 +14,28 @@ pub struct Taken {
 
 // Reads standard input. The first 24,576 bytes of an input give the answer of the whole (`nightcard-puts-out`,
 // `nightplan-puts-out` in proofs/Outcome.antt), so a program reads no more than its buffer holds.
-pub fn input(card: &mut [u8]) -> Taken
+pub fn input(rt: &impl Input, card: &mut [u8]) -> Taken
     ensures { IsPrefixLen result.bytes card.new }
 {
-    let bytes = io::read_full(libc::STDIN_FILENO, card);
-    let whole = bytes == card.len() || ended();
-    Taken { whole, bytes }
+    let mut reader = rt.reader();
+    let mut bytes = 0;
+    while bytes < card.len() {
+        match reader.read(&mut card[bytes..]) {
+            Ok(0) => return Taken { whole: true, bytes },
+            Ok(n) => bytes += n,
+            Err(_) => return Taken { whole: false, bytes },
+        }
+    }
+    Taken { whole: true, bytes }
 }
 
-// A read that fails and the end of the input both end `io::read_full`; only at the end does one
-// more read find nothing and not fail.
-fn ended() -> bool {
-    let mut more = [0u8; 1];
-    libc::read(libc::STDIN_FILENO, &mut more) == 0
-}
-
-// Says on standard error what failed, where something did: a program has no exit status, so the line is all that tells.
-pub fn said(done: bool, name: &[u8], what: &[u8]) -> bool
+// Says on standard error what failed, where something did: the exit status is 0 all the same, so the line is all that tells.
+pub fn said(err: &impl Print, done: bool, name: &[u8], what: &[u8]) -> bool
     ensures { result ≡ done }
 {
     if !done {
-        io::write_all(libc::STDERR_FILENO, name);
-        io::write_all(libc::STDERR_FILENO, what);
+        let _ = err.write_all(name);
+        let _ = err.write_all(what);
     }
     done
 }
