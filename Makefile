@@ -15,8 +15,8 @@ edition := $(firstword $(subst ., ,$(version)))
 prefix := $(shell realpath --no-symlinks --canonicalize-missing -- '$(PREFIX)')
 into = $(DESTDIR)$(prefix)
 
-# With the folders, whose dates tell of files that are gone.
-sources := crates.txt $(shell find crates -name must-fail -prune -o -print)
+# With the folders, whose dates tell of files that are gone, but for the crates' own, where rt makes its out/.
+sources := crates.txt $(shell find crates/*/* \( -name must-fail -o -name out \) -prune -o -print)
 archive := target/staticlib/libaltairpeg.a
 object := libaltairpeg.so.$(edition)
 shared := target/shared/$(object)
@@ -44,7 +44,7 @@ no-kit := target/ is not built or not current, and there is no $(RT) to prove an
 define prove
 @command -v $(RT) > /dev/null || { echo '$(no-kit)' >&2; exit 1; }
 @mkdir -p target && touch target/begun
-flock target/plan.lock $(RT) $(1)
+RT=$(RT) flock target/plan.lock tools/build $(1)
 @touch -r target/begun $(2)
 endef
 

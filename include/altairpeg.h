@@ -1,6 +1,6 @@
 /* Altairpeg: multistage sorting plans derived, checked, replayed, priced and stored on night cards.
  *
- * Link with libaltairpeg.a, which `rt staticlib altairpeg` writes to target/staticlib/, or with what `make install`
+ * Link with libaltairpeg.a, which `tools/build staticlib altairpeg` writes to target/staticlib/, or with what `make install`
  * puts in place, archive or shared object.
  *
  * A night: the lengths of the outbound trains, the inbound order of the cars, its mark, the sorting tracks and the room

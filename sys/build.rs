@@ -8,7 +8,7 @@ use std::process::Command;
 /// The one name by which Rust, Python and the second program are given another archive.
 const NAMED: &str = "ALTAIRPEG_ARCHIVE";
 const HELP: &str =
-    "run `rt staticlib altairpeg` in the repository's root, or let ALTAIRPEG_ARCHIVE name another";
+    "run `tools/build staticlib altairpeg` in the repository's root, or let ALTAIRPEG_ARCHIVE name another";
 /// How an archive begins, and the bytes of the head before each of its members.
 const MAGIC: &[u8] = b"!<arch>\n";
 const HEAD: usize = 60;
@@ -23,7 +23,7 @@ fn main() {
     }
 }
 
-/// The archive that is named, or the one that `rt staticlib` writes.
+/// The archive that is named, or the one that `tools/build` writes.
 fn archive() -> PathBuf {
     match env::var_os(NAMED).filter(|named| !named.is_empty()) {
         Some(named) => {

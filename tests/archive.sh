@@ -23,7 +23,7 @@ refuses() { # TEXT CRATE...: no build, and the sentence
     local text=$1 said
     shift
     if said=$(cargo build --quiet --manifest-path "$@" 2>&1); then fail "$ALTAIRPEG_ARCHIVE was taken"; fi
-    grep -qF -- "$ALTAIRPEG_ARCHIVE $text: run \`rt staticlib altairpeg\`" <<< "$said" || fail "no '$text' in: $said"
+    grep -qF -- "$ALTAIRPEG_ARCHIVE $text: run \`tools/build staticlib altairpeg\`" <<< "$said" || fail "no '$text' in: $said"
 }
 
 real=$PWD/target/staticlib/libaltairpeg.a

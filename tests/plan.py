@@ -1,7 +1,7 @@
 #!/usr/bin/env python3
 """./plan as a user meets it: what it shows, what it refuses, and what it leaves alone.
 
-Runs on the programs and the archive in target/, which `rt check nightcard nightplan` and `rt staticlib altairpeg` build. Each
+Runs on the programs and the archive in target/, which `tools/build check nightcard nightplan` and `tools/build staticlib altairpeg` build. Each
 test works on a copy of the checkout in a folder with an awkward name. Where a test is about when the prover is run, a
 stand-in takes the prover's place: it notes each call and copies the built programs to where rt would build them.
 """
@@ -88,7 +88,7 @@ class Checkout(unittest.TestCase):
         self.here.mkdir()
         for name in ("plan", "crates.txt"):
             shutil.copy2(ROOT / name, self.here / name)
-        shutil.copytree(ROOT / "crates" / "yard", self.here / "crates" / "yard")
+        shutil.copytree(ROOT / "crates" / "yard", self.here / "crates" / "yard", ignore=shutil.ignore_patterns("out"))
         shutil.copytree(ROOT / "python" / "altairpeg", self.here / "python" / "altairpeg", ignore=shutil.ignore_patterns("__pycache__"))
         for name in BUILT:
             (self.here / "target" / name).parent.mkdir(parents=True, exist_ok=True)
@@ -102,11 +102,11 @@ class Checkout(unittest.TestCase):
             os.utime(file, (oldest, oldest))
 
     def _stand_in(self) -> None:
-        """Puts the stand-in on the path."""
-        program = self.scratch / "bin" / "rt"
-        program.parent.mkdir()
-        program.write_text(STAND_IN)
-        program.chmod(0o755)
+        """Puts the stand-in in the place of tools/build, and an rt on the path, which is only looked for."""
+        for program, text in ((self.here / "tools" / "build", STAND_IN), (self.scratch / "bin" / "rt", "#!/bin/sh\n")):
+            program.parent.mkdir()
+            program.write_text(text)
+            program.chmod(0o755)
 
     def start(self, *words: object, program: Path | str | None = None, **how: object) -> subprocess.Popen:
         """Starts ./plan, from the scratch folder."""
@@ -419,7 +419,7 @@ class Prover(Checkout):
         status, out, err = self.plan(self.card)
         self.assertEqual((status, out), (2, ""))
         self.assertIn("yard NOT PROVED", err)
-        self.assertEqual(err.splitlines()[-1], "plan: rt check nightcard nightplan failed")
+        self.assertEqual(err.splitlines()[-1], "plan: tools/build check nightcard nightplan failed")
 
     def test_prover_that_leaves_no_programs(self):
         self.drop_built()
@@ -484,5 +484,5 @@ class ReadOnly(Checkout):
 if __name__ == "__main__":
     missing = [str(name) for name in BUILT if not (ROOT / "target" / name).is_file()]
     if missing:
-        sys.exit(f"tests/plan.py needs {', '.join(missing)} in target/: run `rt check nightcard nightplan` and `rt staticlib altairpeg`")
+        sys.exit(f"tests/plan.py needs {', '.join(missing)} in target/: run `tools/build check nightcard nightplan` and `tools/build staticlib altairpeg`")
     unittest.main()

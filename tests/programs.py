@@ -1,6 +1,6 @@
 """nightcard and nightplan at the system's edge, of which nothing is proved: what is read and what is written.
 
-Expects target/bin/nightcard and target/bin/nightplan (`rt check nightcard nightplan`). Standard library only.
+Expects target/bin/nightcard and target/bin/nightplan (`tools/build check nightcard nightplan`). Standard library only.
 """
 
 import fcntl

@@ -5,7 +5,7 @@ The archive's code is position independent, so one command makes a shared object
     gcc -shared -o libaltairpeg.so -Wl,--whole-archive libaltairpeg.a -Wl,--no-whole-archive
 
 The archive is the one that the variable ALTAIRPEG_ARCHIVE names, whatever its age, or else that of the checkout around
-this file, `target/staticlib/libaltairpeg.a`, which `rt staticlib altairpeg` makes. Its shared object is made on first
+this file, `target/staticlib/libaltairpeg.a`, which `tools/build staticlib altairpeg` makes. Its shared object is made on first
 use into the user's cache, under a name that follows from the archive's bytes, so an old one is never taken for a new
 one. Where there is no archive, the shared object inside the package serves, which `pip install` has put there.
 """
@@ -51,7 +51,7 @@ def cached(source: Path) -> Path:
     try:
         data = source.read_bytes()
     except OSError as trouble:
-        advice = f"run `rt staticlib altairpeg`, or let {VARIABLE} name libaltairpeg.a"
+        advice = f"run `tools/build staticlib altairpeg`, or let {VARIABLE} name libaltairpeg.a"
         raise LibraryError(f"{source} can't be read ({trouble.strerror}): {advice}") from None
     digest = hashlib.sha256(" ".join(COMMAND).encode() + data).hexdigest()
     return cache() / f"libaltairpeg-{digest[:32]}.so"

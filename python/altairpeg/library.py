@@ -115,7 +115,7 @@ def _prices_every_step(library: ctypes.CDLL) -> bool:
 
 def _earlier(told: Path) -> LibraryError:
     """The error that tells of a library of an earlier version."""
-    return LibraryError(f"{told} is of an Altairpeg before 3.0.0, whose calls take other arguments: run `rt staticlib altairpeg` anew")
+    return LibraryError(f"{told} is of an Altairpeg before 3.0.0, whose calls take other arguments: run `tools/build staticlib altairpeg` anew")
 
 
 def _of_archive(source: Path) -> ctypes.CDLL:
@@ -138,4 +138,4 @@ def library() -> ctypes.CDLL:
         return _of_archive(source)
     if building.PACKAGED.is_file():
         return opened(building.PACKAGED, building.PACKAGED)
-    raise LibraryError(f"there is no libaltairpeg.a: run `rt staticlib altairpeg` in the checkout, or let {building.VARIABLE} name one")
+    raise LibraryError(f"there is no libaltairpeg.a: run `tools/build staticlib altairpeg` in the checkout, or let {building.VARIABLE} name one")

@@ -1,6 +1,6 @@
 #!/usr/bin/env bash
 # Measures the library beside an earlier edition of it: run.sh CHECKOUT, where CHECKOUT is a checkout of that edition
-# with its archive built (`rt staticlib altairpeg`) and a tests/beside/calls.c for its C interface. No part of the gate.
+# with its archive built (`tools/build staticlib altairpeg`) and a tests/beside/calls.c for its C interface. No part of the gate.
 set -euo pipefail
 before=$(cd "$1" && pwd)
 cd "$(dirname "$0")/../.."

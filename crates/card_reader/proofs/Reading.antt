@@ -1,9 +1,7 @@
 -- Laws of the reader: where the numbers and lists of a card stand, and its verdict in parts.
-use Prim.Native.Nat.{ℕ, ◌+◌, ◌*◌, ◌≤◌}
-use mathlib.Core.Path.{◌≡◌, refl, sym, ap, subst, ◌∙◌}
+use Prim.Native.Nat.{ℕ, ◌+◌, ◌≤◌}
+use mathlib.Core.Path.{◌≡◌, sym, ap, subst, ◌∙◌}
 use mathlib.Core.List.{List, ◌++◌}
-use native.Mathlib.Nat.{mul-le-mul}
-use native.Mathlib.Omega.{arith}
 use lib.ListN.{length, take, drop, replicate}
 use lib.Seq.{take_at, drop_at, drop-drop}
 use borrow.Author.Tests.{eq-eqb, ne_eqb}
@@ -13,7 +11,7 @@ use Rattle.yard.specs.declared.Head.{Head}
 use Rattle.yard.specs.Night.{sum}
 use Rattle.yard.specs.Answers.{says, verdict, written}
 use Rattle.yard.specs.Bits.{Bytes, unpacked, bits_of}
-use Rattle.yard.specs.Card.{layout, head_widths, list_widths, card_length, head_on, lists_on, card_plan, right_length, ends_right, no_head, reader_says}
+use Rattle.yard.specs.Card.{layout, head_widths, card_length, head_on, lists_on, card_plan, right_length, ends_right, no_head, reader_says}
 use Rattle.yard.specs.Card.{limits_of, reader_verdict, reader_answer, judged, Reads}
 use Rattle.yard.proofs.calls.Verdict.{verdict-passes, stops-all, goes-on-all, written-accepted, written-refused}
 use Rattle.yard.proofs.calls.Tests.{counts-passed}

@@ -1,6 +1,6 @@
 -- Laws of the format in numbers: the widths are narrow, and the places add up to them.
-use Prim.Native.Nat.{ℕ, ◌+◌, ◌*◌, ◌^◌, ◌≤◌}
-use mathlib.Core.Path.{◌≡◌, sym, subst, ◌∙◌}
+use Prim.Native.Nat.{ℕ, ◌^◌, ◌≤◌}
+use mathlib.Core.Path.{◌≡◌, sym, subst}
 use native.Mathlib.Nat.{mul-le-mul}
 use native.Mathlib.Omega.{arith}
 use Rattle.yard.specs.declared.Layout.{Layout}

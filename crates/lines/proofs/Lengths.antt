@@ -10,7 +10,7 @@ use lib.Dec.{ltb}
 use lib.ListN.{length, length-append}
 use borrow.Author.Tests.{lt-ltb}
 use Rattle.io.specs.Digits.{hex_digit_ascii, last_digits}
-use Rattle.yard.specs.Words.{up_from, first}
+use Rattle.yard.specs.Words.{up_from}
 use Rattle.yard.proofs.general.First.{first-le, first-least}
 use Rattle.lines.specs.Text.{ascii, width, numeral, labelled}
 use Rattle.lines.specs.Lines.{refusal_line, counts_line, car_list, train_line}

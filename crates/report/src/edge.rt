@@ -23,7 +23,10 @@ pub fn input(rt: &impl Input, card: &mut [u8]) -> Taken
         match reader.read(&mut card[bytes..]) {
             Ok(0) => return Taken { whole: true, bytes },
             Ok(n) => bytes += n,
-            Err(_) => return Taken { whole: false, bytes },
+            Err(_) => return Taken {
+                whole: false,
+                bytes,
+            },
         }
     }
     Taken { whole: true, bytes }

@@ -1,5 +1,5 @@
 -- The night and the plan; trains, pairs and breaks. Cars, trains and places in a list count from 1, tracks and steps from 0.
-use Rattle.std.specs.Prelude.{ℕ, suc, ◌+◌, ◌-◌, Bool, cond, not, List, [], ◌∷◌, leb, ltb, eqb, length, get_or, take}
+use Rattle.std.specs.Prelude.{ℕ, suc, ◌-◌, Bool, cond, not, List, [], ◌∷◌, leb, ltb, eqb, length, get_or, take}
 use Rattle.yard.specs.declared.Counts.{Counts}
 use Rattle.yard.specs.Words.{total, most, keep, place, up_from}
 

@@ -2,7 +2,7 @@
 -- and what it took rolls in again.
 use Rattle.std.specs.Prelude.{ℕ, zero, suc, ◌+◌, ◌-◌, ◌/◌, ◌%◌, ◌^◌, Bool, cond, not, ◌&&◌, List, [], ◌∷◌, ◌++◌, leb, ltb, eqb, length}
 use Rattle.yard.specs.Words.{tally, total, most, every, listed, place, same, up_from, first}
-use Rattle.yard.specs.Night.{Night, Plan, cars, item_of, train_of, cars_of}
+use Rattle.yard.specs.Night.{Night, Plan, item_of, train_of, cars_of}
 
 -- What stands on each track, front first, and how many cars have rolled in so far. Sorting tracks are 0 to W - 1, the destination of train t is W + t - 1.
 pub record Yard : Type 0 where

@@ -1,6 +1,6 @@
 -- The trial nights of document 01 that are marked P, and nights of document 02: what the written meaning says, beside what the
 -- documents say.
-use Rattle.std.specs.Prelude.{ℕ, ◌-◌, Bool, true, false, ◌&&◌, List, [], ◌∷◌, map, reverse, length, take}
+use Rattle.std.specs.Prelude.{ℕ, Bool, true, false, ◌&&◌, List, [], ◌∷◌, map, reverse, length, take}
 use Rattle.yard.specs.declared.Answer.{Answer}
 use Rattle.yard.specs.Words.{same, up_from}
 use Rattle.yard.specs.Limits.{limits}

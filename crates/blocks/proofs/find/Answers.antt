@@ -5,7 +5,6 @@ use Prim.Native.Nat.{ℕ, ◌^◌, ◌≤◌}
 use native.Mathlib.Omega.{arith}
 use lib.Pow.{pow_mono}
 use lib.ListN.{length}
-use borrow.Author.Rules.{rules}
 use Rattle.yard.specs.Limits.{first_limits}
 use Rattle.yard.proofs.calls.Larger.{within_more}
 use Rattle.scan.specs.Front.{Under}

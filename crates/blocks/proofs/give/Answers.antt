@@ -5,7 +5,6 @@ use Prim.Native.Nat.{ℕ, ◌-◌}
 use native.Mathlib.Omega.{arith}
 use lib.Count.{ones}
 use lib.ListN.{length, take, length-map}
-use borrow.Author.Rules.{rules}
 use Rattle.blocks.specs.Trains.{Costs, AllBlocked}
 use Rattle.blocks.proofs.Coding.{costs-listed, costs-few, chosen-under, coded-all}
 use Rattle.blocks.proofs.give.Goals as goal

@@ -1,13 +1,11 @@
 -- The proof of `set_bits`: the codes passed have their bits counted.
-use mathlib.Core.List.{[], map}
+use mathlib.Core.List.{[]}
 use mathlib.Core.Path.{◌≡◌, refl, ◌∙◌}
-use Prim.Native.Nat.{◌-◌, ◌≤◌}
 use native.Mathlib.Omega.{arith}
 use lib.Count.{ones}
 use lib.Seq.{take-length}
-use lib.ListN.{length, take, length-set}
+use lib.ListN.{length, length-set}
 use Rattle.scan.proofs.Front.{front-none, front-through}
-use Rattle.scan.specs.Front.{Front}
 use Rattle.blocks.proofs.set_bits.Goals as goal
 
 pub loop-i-init : goal.loop-i-init

@@ -1,12 +1,9 @@
 -- The proof of `set_bits`: the codes passed have their bits counted.
-use mathlib.Core.List.{[], map}
-use mathlib.Core.Path.{◌≡◌, refl, ◌∙◌}
-use Prim.Native.Nat.{◌-◌, ◌≤◌}
-use native.Mathlib.Omega.{arith}
+use mathlib.Core.List.{map}
+use mathlib.Core.Path.{◌≡◌}
+use Prim.Native.Nat.{◌≤◌}
 use lib.Count.{ones}
-use lib.Seq.{take-length}
-use lib.ListN.{length, take, length-set}
-use Rattle.scan.proofs.Front.{front-none, front-through}
+use lib.ListN.{length, take}
 use Rattle.scan.specs.Front.{Front}
 use Rattle.blocks.proofs.set_bits.Given as goal
 

@@ -5,7 +5,6 @@ use Prim.Native.Nat.{ℕ, ◌+◌, ◌-◌, ◌^◌, ◌≤◌}
 use native.Mathlib.Omega.{arith}
 use lib.ListN.{length, take}
 use lib.Seq.{length-take-le}
-use borrow.Author.Rules.{rules}
 use Rattle.yard.specs.Limits.{first_limits}
 use Rattle.choice.specs.Choice.{Choosable}
 use Rattle.blocks.specs.Trains.{last_of, weights_of}
@@ -39,9 +38,9 @@ choose-requires c =
     let few : blocks ≤ 2 ^ first_limits.steps = omega (arith, c.requires.2.below, c.requires.0.numbers) in
     let size = zeros-size numbers_of refl (2 ^ first_limits.steps) few in
     let listed : (rest : List ℕ) → take (blocks - 0) (c.weigh.new.weights ++ rest) ≡ weights_of numbers_of =
-        λ rest. weights-part numbers_of refl _ rest c.weigh.auto.weights size c.weigh.ensures in
+    λ rest. weights-part numbers_of refl _ rest c.weigh.auto.weights size c.weigh.ensures in
     let long : (rest : List ℕ) → length (take (blocks - 0) (c.weigh.new.weights ++ rest)) ≤ 2 ^ first_limits.steps =
-        λ rest. omega (arith, ap length (listed rest), weights-length numbers_of, few) in
+    λ rest. omega (arith, ap length (listed rest), weights-length numbers_of, few) in
     let pre = c.requires in
     let costs = c.args.costs.now in (
       subst (λ (l : List ℕ). Choosable l costs) (sym (listed _)) (weights-choosable numbers_of costs pre.0 pre.2),
@@ -65,7 +64,7 @@ returns c =
     let few : blocks ≤ 2 ^ first_limits.steps = omega (arith, c.requires.2.below, c.requires.0.numbers) in
     let size = zeros-size numbers_of refl (2 ^ first_limits.steps) few in
     let listed : (rest : List ℕ) → take (blocks - 0) (c.weigh.new.weights ++ rest) ≡ weights_of numbers_of =
-        λ rest. weights-part numbers_of refl _ rest c.weigh.auto.weights size c.weigh.ensures in
+    λ rest. weights-part numbers_of refl _ rest c.weigh.auto.weights size c.weigh.ensures in
     let costs = c.args.costs.now in
     chosen-train numbers_of refl (length costs) costs c.choose.new.chosen _ _ c.requires.2 (listed _)
     c.choose.ensures c.look_up.ensures

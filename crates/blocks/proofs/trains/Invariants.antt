@@ -1,11 +1,8 @@
 -- The proof of `trains`: the trains passed have their numbers, and the rest stays.
-use mathlib.Core.Path.{◌≡◌, refl, sym, ◌∙◌}
-use Prim.Native.Nat.{◌-◌, ◌≤◌}
-use native.Mathlib.Omega.{arith}
+use mathlib.Core.Path.{◌≡◌}
 use lib.ListN.{length}
-use borrow.Author.Rules.{rules}
 use Rattle.choice.specs.Choice.{picks_most}
-use Rattle.blocks.proofs.ByTrain.{ChosenTo, chosen_none, end-within, blocked-here, chosen-next, chosen-all}
+use Rattle.blocks.proofs.ByTrain.{ChosenTo}
 use Rattle.blocks.proofs.trains.Given as goal
 
 abbrev pub invariant-loop-t : goal.invariant-loop-t

@@ -1,10 +1,9 @@
 -- The proof of `weigh`: the cars passed are counted.
 use mathlib.Core.Path.{◌≡◌, refl, ◌∙◌}
-use Prim.Native.Nat.{ℕ, ◌+◌, ◌-◌, ◌≤◌, ◌<◌}
+use Prim.Native.Nat.{ℕ, ◌+◌, ◌≤◌, ◌<◌}
 use native.Mathlib.Omega.{arith}
 use lib.Seq.{take-length}
-use lib.ListN.{length, get_or, take, length-set}
-use Rattle.blocks.specs.Trains.{Weighed}
+use lib.ListN.{length, get_or, length-set}
 use Rattle.blocks.proofs.Weights.{weighed-none, weighed-few, weighed-next}
 use Rattle.blocks.proofs.weigh.Goals as goal
 
@@ -12,25 +11,25 @@ pub loop-i-init : goal.loop-i-init
 loop-i-init c = (omega arith, refl, weighed-none c.args.weights.now c.requires.2)
 
 pub overflow_cast-block : goal.overflow_cast-block
-overflow_cast-block c = 
+overflow_cast-block c =
     let block : ℕ = get_or c.args.numbers.now c.loop-i.i 0 in
     let fits : block < length c.args.weights.now = c.requires.1 c.loop-i.i c.loop-i-test.true in
     omega (arith, fits)
 
 pub offset_bounds-weights-block : goal.offset_bounds-weights-block
-offset_bounds-weights-block c = 
+offset_bounds-weights-block c =
     let block : ℕ = get_or c.args.numbers.now c.loop-i.i 0 in
     let fits : block < length c.args.weights.now = c.requires.1 c.loop-i.i c.loop-i-test.true in
     omega (arith, fits)
 
 pub bounds-weights-block : goal.bounds-weights-block
-bounds-weights-block c = 
+bounds-weights-block c =
     let block : ℕ = get_or c.args.numbers.now c.loop-i.i 0 in
     let fits : block < length c.args.weights.now = c.requires.1 c.loop-i.i c.loop-i-test.true in
     omega (arith, fits, c.loop-i.invariant.1)
 
 pub overflow_add-weights : goal.overflow_add-weights
-overflow_add-weights c = 
+overflow_add-weights c =
     let block : ℕ = get_or c.args.numbers.now c.loop-i.i 0 in
     let fits : block < length c.args.weights.now = c.requires.1 c.loop-i.i c.loop-i-test.true in
     let few : get_or c.loop-i.weights block 0 ≤ c.loop-i.i = let args = c.args in
@@ -39,7 +38,7 @@ overflow_add-weights c =
     omega (arith, few, c.loop-i.invariant.0, c.requires.0)
 
 pub bounds-weights-block-in-loop-i : goal.bounds-weights-block-in-loop-i
-bounds-weights-block-in-loop-i c = 
+bounds-weights-block-in-loop-i c =
     let block : ℕ = get_or c.args.numbers.now c.loop-i.i 0 in
     let fits : block < length c.args.weights.now = c.requires.1 c.loop-i.i c.loop-i-test.true in
     omega (arith, fits, c.loop-i.invariant.1)

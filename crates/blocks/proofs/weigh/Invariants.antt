@@ -1,11 +1,8 @@
 -- The proof of `weigh`: the cars passed are counted.
-use mathlib.Core.Path.{◌≡◌, refl, ◌∙◌}
-use Prim.Native.Nat.{ℕ, ◌+◌, ◌-◌, ◌≤◌, ◌<◌}
-use native.Mathlib.Omega.{arith}
-use lib.Seq.{take-length}
-use lib.ListN.{length, get_or, take, length-set}
+use mathlib.Core.Path.{◌≡◌}
+use Prim.Native.Nat.{◌≤◌}
+use lib.ListN.{length, take}
 use Rattle.blocks.specs.Trains.{Weighed}
-use Rattle.blocks.proofs.Weights.{weighed-none, weighed-few, weighed-next}
 use Rattle.blocks.proofs.weigh.Given as goal
 
 abbrev pub invariant-loop-i : goal.invariant-loop-i

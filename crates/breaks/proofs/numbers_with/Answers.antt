@@ -1,9 +1,9 @@
 -- The proof of `numbers_with`: the trains passed are counted.
-use mathlib.Core.Path.{◌≡◌, refl, ◌∙◌}
-use Prim.Native.Nat.{◌-◌, ◌≤◌, ◌<◌}
+use mathlib.Core.Path.{refl, ◌∙◌}
+use Prim.Native.Nat.{◌≤◌, ◌<◌}
 use native.Mathlib.Omega.{arith}
 use lib.ListN.{length}
-use Rattle.breaks.proofs.ByCar.{places-by-car, Counted, counted_none, counted_next, counted-all, train-within}
+use Rattle.breaks.proofs.ByCar.{places-by-car, counted_none, counted_next, counted-all, train-within}
 use Rattle.breaks.proofs.numbers_with.Goals as goal
 
 pub places-requires : goal.places-requires

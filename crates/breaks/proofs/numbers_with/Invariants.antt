@@ -1,9 +1,7 @@
 -- The proof of `numbers_with`: the trains passed are counted.
-use mathlib.Core.Path.{◌≡◌, refl, ◌∙◌}
-use Prim.Native.Nat.{◌-◌, ◌≤◌, ◌<◌}
-use native.Mathlib.Omega.{arith}
+use mathlib.Core.Path.{◌≡◌}
 use lib.ListN.{length}
-use Rattle.breaks.proofs.ByCar.{places-by-car, Counted, counted_none, counted_next, counted-all, train-within}
+use Rattle.breaks.proofs.ByCar.{Counted}
 use Rattle.breaks.proofs.numbers_with.Given as goal
 
 abbrev pub invariant-loop-t : goal.invariant-loop-t

@@ -1,13 +1,12 @@
 -- The proof of `train`: the cars passed have the breaks before them.
 use mathlib.Core.Path.{◌≡◌, refl, ap, ◌∙◌}
-use Prim.Native.Nat.{ℕ, ◌+◌, ◌-◌, ◌≤◌, ◌<◌}
+use Prim.Native.Nat.{ℕ, ◌+◌, ◌≤◌}
 use native.Mathlib.Omega.{arith}
 use lib.Seq.{get_or-set_same}
 use lib.ListN.{length, set, length-set}
 use Rattle.yard.specs.Words.{tally}
 use Rattle.scan.proofs.Running.{tally-most}
 use Rattle.trains.specs.Turned.{turned}
-use Rattle.breaks.specs.Numbers.{Train}
 use Rattle.breaks.proofs.ByCar.{train-from, train-first, train-next}
 use Rattle.breaks.proofs.train.Goals as goal
 
@@ -22,22 +21,22 @@ loop-car-init c =
     )
 
 pub overflow_cast-breaks : goal.overflow_cast-breaks
-overflow_cast-breaks c = 
+overflow_cast-breaks c =
     let one_more : c.loop-car.breaks + c.tally.result ≤ c.loop-car.car = omega (arith, c.loop-car.invariant.3.fewer, c.tally.ensures, tally-most c.turned.result) in
     omega (arith, one_more)
 
 pub overflow_add-breaks : goal.overflow_add-breaks
-overflow_add-breaks c = 
+overflow_add-breaks c =
     let one_more : c.loop-car.breaks + c.tally.result ≤ c.loop-car.car = omega (arith, c.loop-car.invariant.3.fewer, c.tally.ensures, tally-most c.turned.result) in
     omega (arith, one_more)
 
 pub overflow_cast-into : goal.overflow_cast-into
-overflow_cast-into c = 
+overflow_cast-into c =
     let one_more : c.loop-car.breaks + c.tally.result ≤ c.loop-car.car = omega (arith, c.loop-car.invariant.3.fewer, c.tally.ensures, tally-most c.turned.result) in
     omega (arith, one_more)
 
 pub bounds-into-car : goal.bounds-into-car
-bounds-into-car c = 
+bounds-into-car c =
     let size : length c.loop-car.into ≡ length c.args.into.now = c.loop-car.invariant.2 ∙ length-set c.args.into.now c.args.before 0 in
     omega (arith, size)
 
@@ -56,7 +55,7 @@ loop-car-preserved c =
     )
 
 pub shape_of-into : goal.shape_of-into
-shape_of-into c = 
+shape_of-into c =
     let size : length c.loop-car.into ≡ length c.args.into.now = c.loop-car.invariant.2 ∙ length-set c.args.into.now c.args.before 0 in
     size
 

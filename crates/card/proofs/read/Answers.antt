@@ -1,8 +1,7 @@
 -- The proof of `read`: the arrays hold the lists of a head that is within the limits, and the small ones those of a small head.
 use lib.Dec.{leb}
-use borrow.Author.Rules.{rules}
 use borrow.Author.Tests.{leb-true}
-use Rattle.yard.specs.Limits.{limits, first_limits}
+use Rattle.yard.specs.Limits.{first_limits}
 use Rattle.yard.proofs.general.Bools.{and_left, and_right}
 use Rattle.card.proofs.read.Goals as goal
 

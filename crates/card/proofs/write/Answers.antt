@@ -1,7 +1,6 @@
 -- The proof of `write`: a plan that is accepted is drawn, and else nothing is written.
 use mathlib.Core.Path.{◌≡◌, sym, ap, subst, ◌∙◌}
 use lib.ListN.{length}
-use borrow.Author.Rules.{rules}
 use Rattle.yard.specs.declared.Head.{Head}
 use Rattle.yard.specs.Limits.{limits}
 use Rattle.yard.specs.Night.{Plan, plan_given}
@@ -18,7 +17,7 @@ answer-answer-requires c =
     let plan : Plan = plan_given a.lengths.now a.inbound.now a.codes.now a.closed a.counts in
     let own : Plan = plan_made a.lengths.now a.inbound.now a.codes.now a.closed a.counts edition mark in
     let head-is : head_made a.lengths.now a.inbound.now a.codes.now a.closed a.counts edition mark ≡ head_of own =
-        head-made a.lengths.now a.inbound.now a.codes.now a.closed a.counts edition mark c.edition_for-edition.ensures c.tally.ensures in
+    head-made a.lengths.now a.inbound.now a.codes.now a.closed a.counts edition mark c.edition_for-edition.ensures c.tally.ensures in
     head-is
 
 pub draw-requires : goal.draw-requires
@@ -29,7 +28,7 @@ draw-requires c =
     let plan : Plan = plan_given a.lengths.now a.inbound.now a.codes.now a.closed a.counts in
     let own : Plan = plan_made a.lengths.now a.inbound.now a.codes.now a.closed a.counts edition mark in
     let head-is : head_made a.lengths.now a.inbound.now a.codes.now a.closed a.counts edition mark ≡ head_of own =
-        head-made a.lengths.now a.inbound.now a.codes.now a.closed a.counts edition mark c.edition_for-edition.ensures c.tally.ensures in
+    head-made a.lengths.now a.inbound.now a.codes.now a.closed a.counts edition mark c.edition_for-edition.ensures c.tally.ensures in
     subst (λ (h : Head). Drawable h own (length a.card.now)) (sym head-is)
     (accepted-drawable own a.card.now c.answer-answer.ensures c.if-answer-eq0.true)
 
@@ -42,7 +41,7 @@ returns-then-answer-eq0 c =
     let own : Plan = plan_made a.lengths.now a.inbound.now a.codes.now a.closed a.counts edition mark in
     let made : own ≡ plan = plan-made a.lengths.now a.inbound.now a.codes.now a.closed a.counts edition mark c.tally.ensures in
     let answered : c.answer-answer.result ≡ writer_answer limits plan (length a.card.now) =
-        c.answer-answer.ensures ∙ ap (λ (p : Plan). writer_answer limits p (length a.card.now)) made in
+    c.answer-answer.ensures ∙ ap (λ (p : Plan). writer_answer limits p (length a.card.now)) made in
     writes-accepted plan a.card.now answered c.if-answer-eq0.true
     (c.draw.ensures ∙ ap (λ (p : Plan). card_over p a.card.now) made)
 
@@ -55,5 +54,5 @@ returns-else-answer-eq0 c =
     let own : Plan = plan_made a.lengths.now a.inbound.now a.codes.now a.closed a.counts edition mark in
     let made : own ≡ plan = plan-made a.lengths.now a.inbound.now a.codes.now a.closed a.counts edition mark c.tally.ensures in
     let answered : c.answer-answer.result ≡ writer_answer limits plan (length a.card.now) =
-        c.answer-answer.ensures ∙ ap (λ (p : Plan). writer_answer limits p (length a.card.now)) made in
+    c.answer-answer.ensures ∙ ap (λ (p : Plan). writer_answer limits p (length a.card.now)) made in
     writes-refused plan a.card.now answered c.if-answer-eq0.false

@@ -1,9 +1,8 @@
 -- The proof of `head`: each number stands behind the one before it.
-use Prim.Native.Nat.{ℕ, ◌+◌, ◌≤◌}
+use Prim.Native.Nat.{ℕ, ◌≤◌}
 use mathlib.Core.List.{List}
 use mathlib.Core.Path.{◌≡◌}
 use native.Mathlib.Omega.{arith}
-use borrow.Author.Rules.{rules}
 use Rattle.bits.specs.declared.fields.Eye.{Eye}
 use Rattle.bits.specs.Fields.{longest}
 use Rattle.bits.specs.Eyes.{place, Looks}

@@ -3,7 +3,6 @@ use mathlib.Core.Path.{sym}
 use native.Mathlib.Nat.{suc-ne-zero}
 use native.Mathlib.Omega.{arith}
 use lib.Dec.{eqb}
-use borrow.Author.Rules.{rules}
 use Rattle.yard.specs.Answers.{says}
 use Rattle.yard.specs.Card.{edition_for}
 use Rattle.yard.specs.Night.{closed_by}

@@ -1,7 +1,6 @@
 -- The proof of `lists`: the tests are those of the fields that stand on the card.
 use native.Mathlib.Nat.{sub-zero}
 use native.Mathlib.Omega.{arith}
-use borrow.Author.Rules.{rules}
 use Rattle.bits.proofs.Places.{fields-front}
 use Rattle.format.proofs.Widths.{layout-narrow, end-bounded}
 use Rattle.card_reader.proofs.lists.Goals as goal

@@ -2,7 +2,6 @@
 use mathlib.Core.Path.{sym}
 use native.Mathlib.Nat.{suc-ne-zero}
 use lib.Dec.{leb}
-use borrow.Author.Rules.{rules}
 use Rattle.yard.specs.Answers.{says}
 use Rattle.yard.proofs.calls.Verdict.{last-is}
 use Rattle.card_reader.proofs.size_tests.Goals as goal

@@ -1,7 +1,6 @@
 -- The proof of `verdict`: the tests are made in parts, and a part that refuses is the verdict.
 use mathlib.Core.Path.{◌≡◌, sym, ap, ◌∙◌}
 use lib.ListN.{length}
-use borrow.Author.Rules.{rules}
 use Rattle.yard.specs.Answers.{says, verdict}
 use Rattle.yard.specs.Card.{head_on}
 use Rattle.format.specs.Format.{Bounded}
@@ -19,7 +18,7 @@ returns-then-first-ne0 c =
     )
 
 pub size_tests-second-requires : goal.size_tests-second-requires
-size_tests-second-requires c = 
+size_tests-second-requires c =
     let bounded : Bounded c.args.head = let args = c.args in
     head-bounded (length args.card.now) args.head (sym (ap (λ r. r.number) c.head_tests-first.ensures) ∙ c.if-first-ne0.false) in
     bounded
@@ -66,7 +65,7 @@ returns-then-night-ne0 c =
     )
 
 pub last_tests-requires : goal.last_tests-requires
-last_tests-requires c = 
+last_tests-requires c =
     let bounded : Bounded c.args.head = let args = c.args in
     head-bounded (length args.card.now) args.head (sym (ap (λ r. r.number) c.head_tests-first.ensures) ∙ c.if-first-ne0.false) in
     let bounded-read : Bounded c.args.head = bounded in

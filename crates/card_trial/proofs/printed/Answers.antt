@@ -1,8 +1,5 @@
 -- The proof of `printed`: each place is within the list.
-use Prim.Native.Nat.{◌-◌, ◌≤◌}
 use native.Mathlib.Omega.{arith}
-use lib.ListN.{length}
-use borrow.Author.Rules.{rules}
 use Rattle.card_trial.proofs.printed.Goals as goal
 
 pub overflow_cast-list : goal.overflow_cast-list

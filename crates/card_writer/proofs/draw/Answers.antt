@@ -1,11 +1,7 @@
 -- The proof of `draw`: head, lengths, inbound numbers and codes are drawn one behind the other, then seven zero bits.
-use Prim.Native.Nat.{ℕ, ◌+◌, ◌*◌}
 use mathlib.Core.Path.{◌≡◌, ap, ◌∙◌}
-use mathlib.Core.List.{List, append_assoc}
 use native.Mathlib.Omega.{arith}
 use lib.ListN.{length}
-use borrow.Author.Rules.{rules}
-use Rattle.yard.specs.Night.{Plan}
 use Rattle.yard.specs.Card.{layout, edition_of, head_of}
 use Rattle.yard.proofs.cards.Card.{head_bits}
 use Rattle.bits.specs.Pens.{fresh, Draws}
@@ -28,9 +24,9 @@ puts-with_lengths-requires c =
     let laid : c.layout_of-l.result ≡ layout (edition_of plan) = c.layout_of-l.ensures.is ∙ ap (λ h. layout h.edition) d.head in
     let w = (layout (edition_of plan)).number in
     let head : Draws 31 (head_run plan) c.args.card.now fresh c.draw_head-with_head.new.card c.draw_head-with_head.result =
-        rw d.head at c.draw_head-with_head.ensures in
+    rw d.head at c.draw_head-with_head.ensures in
     let after-head : Stands (head_bits (head_of plan)) c.args.card.now c.draw_head-with_head.new.card c.draw_head-with_head.result =
-        record { place = omega (arith, head.reached, head-size plan); size = c.draw_head-with_head.auto.card } in
+    record { place = omega (arith, head.reached, head-size plan); size = c.draw_head-with_head.auto.card } in
     rw laid ((layout-narrow _).number, stands-ready after-head c.draw_head-with_head.ensures.few (omega (arith, drawable-bits d)))
 
 pub puts-with_inbound-requires : goal.puts-with_inbound-requires
@@ -40,11 +36,11 @@ puts-with_inbound-requires c =
     let laid : c.layout_of-l.result ≡ layout (edition_of plan) = c.layout_of-l.ensures.is ∙ ap (λ h. layout h.edition) d.head in
     let w = (layout (edition_of plan)).number in
     let head : Draws 31 (head_run plan) c.args.card.now fresh c.draw_head-with_head.new.card c.draw_head-with_head.result =
-        rw d.head at c.draw_head-with_head.ensures in
+    rw d.head at c.draw_head-with_head.ensures in
     let after-head : Stands (head_bits (head_of plan)) c.args.card.now c.draw_head-with_head.new.card c.draw_head-with_head.result =
-        record { place = omega (arith, head.reached, head-size plan); size = c.draw_head-with_head.auto.card } in
+    record { place = omega (arith, head.reached, head-size plan); size = c.draw_head-with_head.auto.card } in
     let lengths : Draws 31 (run w plan.night.lengths) c.draw_head-with_head.new.card c.draw_head-with_head.result
-        c.puts-with_lengths.new.card c.puts-with_lengths.result = rw laid at c.puts-with_lengths.ensures in
+    c.puts-with_lengths.new.card c.puts-with_lengths.result = rw laid at c.puts-with_lengths.ensures in
     let after-lengths = stands-next _ after-head lengths (run-size w plan.night.lengths) c.puts-with_lengths.auto.card in
     rw laid ((layout-narrow _).number, stands-ready after-lengths c.puts-with_lengths.ensures.few (omega (arith, drawable-bits d)))
 
@@ -55,14 +51,14 @@ puts-with_codes-requires c =
     let laid : c.layout_of-l.result ≡ layout (edition_of plan) = c.layout_of-l.ensures.is ∙ ap (λ h. layout h.edition) d.head in
     let w = (layout (edition_of plan)).number in
     let head : Draws 31 (head_run plan) c.args.card.now fresh c.draw_head-with_head.new.card c.draw_head-with_head.result =
-        rw d.head at c.draw_head-with_head.ensures in
+    rw d.head at c.draw_head-with_head.ensures in
     let after-head : Stands (head_bits (head_of plan)) c.args.card.now c.draw_head-with_head.new.card c.draw_head-with_head.result =
-        record { place = omega (arith, head.reached, head-size plan); size = c.draw_head-with_head.auto.card } in
+    record { place = omega (arith, head.reached, head-size plan); size = c.draw_head-with_head.auto.card } in
     let lengths : Draws 31 (run w plan.night.lengths) c.draw_head-with_head.new.card c.draw_head-with_head.result
-        c.puts-with_lengths.new.card c.puts-with_lengths.result = rw laid at c.puts-with_lengths.ensures in
+    c.puts-with_lengths.new.card c.puts-with_lengths.result = rw laid at c.puts-with_lengths.ensures in
     let after-lengths = stands-next _ after-head lengths (run-size w plan.night.lengths) c.puts-with_lengths.auto.card in
     let inbound : Draws 31 (run w plan.night.inbound) c.puts-with_lengths.new.card c.puts-with_lengths.result
-        c.puts-with_inbound.new.card c.puts-with_inbound.result = rw laid at c.puts-with_inbound.ensures in
+    c.puts-with_inbound.new.card c.puts-with_inbound.result = rw laid at c.puts-with_inbound.ensures in
     let after-inbound = stands-next _ after-lengths inbound (run-size w plan.night.inbound) c.puts-with_inbound.auto.card in
     (omega (arith, d.bounded.steps), stands-ready after-inbound c.puts-with_inbound.ensures.few (omega (arith, drawable-bits d)))
 
@@ -73,14 +69,14 @@ close-requires c =
     let laid : c.layout_of-l.result ≡ layout (edition_of plan) = c.layout_of-l.ensures.is ∙ ap (λ h. layout h.edition) d.head in
     let w = (layout (edition_of plan)).number in
     let head : Draws 31 (head_run plan) c.args.card.now fresh c.draw_head-with_head.new.card c.draw_head-with_head.result =
-        rw d.head at c.draw_head-with_head.ensures in
+    rw d.head at c.draw_head-with_head.ensures in
     let after-head : Stands (head_bits (head_of plan)) c.args.card.now c.draw_head-with_head.new.card c.draw_head-with_head.result =
-        record { place = omega (arith, head.reached, head-size plan); size = c.draw_head-with_head.auto.card } in
+    record { place = omega (arith, head.reached, head-size plan); size = c.draw_head-with_head.auto.card } in
     let lengths : Draws 31 (run w plan.night.lengths) c.draw_head-with_head.new.card c.draw_head-with_head.result
-        c.puts-with_lengths.new.card c.puts-with_lengths.result = rw laid at c.puts-with_lengths.ensures in
+    c.puts-with_lengths.new.card c.puts-with_lengths.result = rw laid at c.puts-with_lengths.ensures in
     let after-lengths = stands-next _ after-head lengths (run-size w plan.night.lengths) c.puts-with_lengths.auto.card in
     let inbound : Draws 31 (run w plan.night.inbound) c.puts-with_lengths.new.card c.puts-with_lengths.result
-        c.puts-with_inbound.new.card c.puts-with_inbound.result = rw laid at c.puts-with_inbound.ensures in
+    c.puts-with_inbound.new.card c.puts-with_inbound.result = rw laid at c.puts-with_inbound.ensures in
     let after-inbound = stands-next _ after-lengths inbound (run-size w plan.night.inbound) c.puts-with_inbound.auto.card in
     let after-codes = stands-next _ after-inbound c.puts-with_codes.ensures (run-size plan.steps plan.codes) c.puts-with_codes.auto.card in
     stands-ready after-codes c.puts-with_codes.ensures.few (omega (arith, drawable-bits d))
@@ -92,14 +88,14 @@ returns c =
     let laid : c.layout_of-l.result ≡ layout (edition_of plan) = c.layout_of-l.ensures.is ∙ ap (λ h. layout h.edition) d.head in
     let w = (layout (edition_of plan)).number in
     let head : Draws 31 (head_run plan) c.args.card.now fresh c.draw_head-with_head.new.card c.draw_head-with_head.result =
-        rw d.head at c.draw_head-with_head.ensures in
+    rw d.head at c.draw_head-with_head.ensures in
     let after-head : Stands (head_bits (head_of plan)) c.args.card.now c.draw_head-with_head.new.card c.draw_head-with_head.result =
-        record { place = omega (arith, head.reached, head-size plan); size = c.draw_head-with_head.auto.card } in
+    record { place = omega (arith, head.reached, head-size plan); size = c.draw_head-with_head.auto.card } in
     let lengths : Draws 31 (run w plan.night.lengths) c.draw_head-with_head.new.card c.draw_head-with_head.result
-        c.puts-with_lengths.new.card c.puts-with_lengths.result = rw laid at c.puts-with_lengths.ensures in
+    c.puts-with_lengths.new.card c.puts-with_lengths.result = rw laid at c.puts-with_lengths.ensures in
     let after-lengths = stands-next _ after-head lengths (run-size w plan.night.lengths) c.puts-with_lengths.auto.card in
     let inbound : Draws 31 (run w plan.night.inbound) c.puts-with_lengths.new.card c.puts-with_lengths.result
-        c.puts-with_inbound.new.card c.puts-with_inbound.result = rw laid at c.puts-with_inbound.ensures in
+    c.puts-with_inbound.new.card c.puts-with_inbound.result = rw laid at c.puts-with_inbound.ensures in
     let after-inbound = stands-next _ after-lengths inbound (run-size w plan.night.inbound) c.puts-with_inbound.auto.card in
     let after-codes = stands-next _ after-inbound c.puts-with_codes.ensures (run-size plan.steps plan.codes) c.puts-with_codes.auto.card in
     let all = draws-then (draws-then head (draws-then lengths (draws-then inbound c.puts-with_codes.ensures))) c.close.ensures in

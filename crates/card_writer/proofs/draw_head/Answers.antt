@@ -1,14 +1,11 @@
 -- The proof of `draw_head`: seven numbers are drawn one behind the other.
-use Prim.Native.Nat.{ℕ, ◌+◌, ◌*◌, ◌≤◌}
+use Prim.Native.Nat.{◌+◌, ◌*◌, ◌≤◌}
 use mathlib.Core.Path.{refl}
-use mathlib.Core.List.{List}
 use native.Mathlib.Omega.{arith}
 use lib.ListN.{length}
-use borrow.Author.Rules.{rules}
-use Rattle.yard.specs.declared.Layout.{Layout}
 use Rattle.yard.proofs.cards.Bits.{length-to_bits}
 use Rattle.bits.proofs.Drawing.{draws-none, draws-then}
-use Rattle.card_writer.proofs.Writing.{Stands, stands-first, stands-next, stands-ready}
+use Rattle.card_writer.proofs.Writing.{stands-first, stands-next, stands-ready}
 use Rattle.card_writer.proofs.draw_head.Goals as goal
 
 pub put-mark-requires : goal.put-mark-requires

@@ -1,5 +1,4 @@
 -- The proof of `choose`: the table is followed.
-use borrow.Author.Rules.{rules}
 use native.Mathlib.Omega.{arith}
 use Rattle.choice.proofs.Chosen.{place-within, chosen-cheapest}
 use Rattle.choice.proofs.choose.Goals as goal

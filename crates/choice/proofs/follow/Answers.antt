@@ -1,6 +1,6 @@
 -- The proof of `follow`: the blocks passed have the numbers that the table leads to, and the next looks from where it leads.
 use mathlib.Core.Path.{◌≡◌, refl, ap, ◌∙◌}
-use Prim.Native.Nat.{ℕ, suc, ◌+◌, ◌-◌, ◌*◌, ◌≤◌, ◌<◌}
+use Prim.Native.Nat.{ℕ, suc, ◌+◌, ◌*◌, ◌≤◌, ◌<◌}
 use native.Mathlib.Numerals.{add-one}
 use native.Mathlib.Omega.{arith}
 use lib.ListN.{length, get_or, length-set}
@@ -13,32 +13,32 @@ pub loop-b-init : goal.loop-b-init
 loop-b-init c = (omega arith, refl, refl, below_none _)
 
 pub overflow_mul-d : goal.overflow_mul-d
-overflow_mul-d c = 
+overflow_mul-d c =
     let place : c.loop-b.b * c.args.width + c.loop-b.d < length c.args.picks.now = omega (arith, c.requires.2 c.loop-b.b c.loop-b-test.true) in
     omega (arith, place)
 
 pub overflow_add-d : goal.overflow_add-d
-overflow_add-d c = 
+overflow_add-d c =
     let place : c.loop-b.b * c.args.width + c.loop-b.d < length c.args.picks.now = omega (arith, c.requires.2 c.loop-b.b c.loop-b-test.true) in
     omega (arith, place)
 
 pub bounds-picks-b : goal.bounds-picks-b
-bounds-picks-b c = 
+bounds-picks-b c =
     let place : c.loop-b.b * c.args.width + c.loop-b.d < length c.args.picks.now = omega (arith, c.requires.2 c.loop-b.b c.loop-b-test.true) in
     place
 
 pub overflow_cast-d : goal.overflow_cast-d
-overflow_cast-d c = 
+overflow_cast-d c =
     let pick : get_or c.args.picks.now (c.loop-b.b * c.args.width + c.loop-b.d) 0 ≤ 255 = omega (arith, c.type_inv.picks (c.loop-b.b * c.args.width + c.loop-b.d)) in
     omega (arith, pick)
 
 pub overflow_add-chosen : goal.overflow_add-chosen
-overflow_add-chosen c = 
+overflow_add-chosen c =
     let pick : get_or c.args.picks.now (c.loop-b.b * c.args.width + c.loop-b.d) 0 ≤ 255 = omega (arith, c.type_inv.picks (c.loop-b.b * c.args.width + c.loop-b.d)) in
     omega (arith, pick)
 
 pub overflow_cast-chosen : goal.overflow_cast-chosen
-overflow_cast-chosen c = 
+overflow_cast-chosen c =
     let pick : get_or c.args.picks.now (c.loop-b.b * c.args.width + c.loop-b.d) 0 ≤ 255 = omega (arith, c.type_inv.picks (c.loop-b.b * c.args.width + c.loop-b.d)) in
     omega (arith, pick)
 

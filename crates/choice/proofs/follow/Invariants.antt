@@ -1,11 +1,7 @@
 -- The proof of `follow`: the blocks passed have the numbers that the table leads to, and the next looks from where it leads.
-use mathlib.Core.Path.{◌≡◌, refl, ap, ◌∙◌}
-use Prim.Native.Nat.{ℕ, suc, ◌+◌, ◌-◌, ◌*◌, ◌≤◌, ◌<◌}
-use native.Mathlib.Numerals.{add-one}
-use native.Mathlib.Omega.{arith}
-use lib.ListN.{length, get_or, length-set}
-use lib.Seq.{get_or-set_same, get_or-set_other}
-use borrow.Author.Count.{below_none, below_more}
+use mathlib.Core.Path.{◌≡◌}
+use Prim.Native.Nat.{ℕ, suc, ◌+◌, ◌≤◌, ◌<◌}
+use lib.ListN.{length, get_or}
 use Rattle.choice.specs.Rows.{reached}
 use Rattle.choice.proofs.follow.Given as goal
 

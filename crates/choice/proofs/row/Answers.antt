@@ -1,6 +1,5 @@
 -- The proof of `row`: the row is written from the choice at hand on, and what stands before it is as it was.
 use mathlib.Core.Path.{◌≡◌}
-use mathlib.Core.Logic.{⊎_elim}
 use Prim.Native.Nat.{ℕ, suc, ◌-◌, ◌*◌, ◌≤◌, ◌<◌}
 use native.Mathlib.Omega.{arith}
 use Rattle.choice.specs.Rows.{together}
@@ -13,7 +12,7 @@ pub loop-d-init : goal.loop-d-init
 loop-d-init c = rowed-none
 
 pub overflow_mul-cost : goal.overflow_mul-cost
-overflow_mul-cost c = 
+overflow_mul-cost c =
     let cost : ℕ → ℕ = together c.args.weights.now c.args.costs.now c.args.b c.args.behind.now in
     let fits : cost (c.loop-d.d - 1) ≤ 65535 = c.requires.5 (c.loop-d.d - 1) (omega (arith, c.loop-d.invariant.upto)) in
     omega (arith, fits)
@@ -37,8 +36,8 @@ loop-d-preserved c =
     let here = so_far.ahead d (omega arith) in
     rowed-next near (omega arith) (omega arith)
     (elim c.if-cost-least.branch [
-      then-cost-least w ↦ rw (w.least-is, w.pick-is, here) (held-here cost c.args.width d near so_far.held (omega (arith, w.if-cost-least.true)))
-    | else-cost-least w ↦ rw (w.least-is, w.pick-is) (held-later cost c.args.width d near so_far.held fits (omega (arith, w.if-cost-least.false)))
+      | then-cost-least w ↦ rw (w.least-is, w.pick-is, here) (held-here cost c.args.width d near so_far.held (omega (arith, w.if-cost-least.true)))
+      | else-cost-least w ↦ rw (w.least-is, w.pick-is) (held-later cost c.args.width d near so_far.held fits (omega (arith, w.if-cost-least.false)))
     ])
     so_far
 

@@ -1,11 +1,7 @@
 -- The proof of `row`: the row is written from the choice at hand on, and what stands before it is as it was.
-use mathlib.Core.Path.{◌≡◌}
-use mathlib.Core.Logic.{⊎_elim}
-use Prim.Native.Nat.{ℕ, suc, ◌-◌, ◌*◌, ◌≤◌, ◌<◌}
-use native.Mathlib.Omega.{arith}
+use Prim.Native.Nat.{◌*◌}
 use Rattle.choice.specs.Rows.{together}
-use Rattle.choice.proofs.FirstLeast.{held-here, held-later}
-use Rattle.choice.proofs.Table.{Rowed, rowed-none, rowed-next}
+use Rattle.choice.proofs.Table.{Rowed}
 use Rattle.choice.proofs.row.Given as goal
 
 abbrev pub invariant-loop-d : goal.invariant-loop-d

@@ -2,7 +2,7 @@
 use mathlib.Core.Path.{◌≡◌, refl, sym, ap, ◌∙◌}
 use Prim.Native.Nat.{ℕ, suc, ◌-◌, ◌*◌, ◌^◌, ◌≤◌}
 use native.Mathlib.Omega.{arith}
-use lib.ListN.{length, get_or-replicate}
+use lib.ListN.{get_or-replicate}
 use Rattle.yard.specs.Limits.{first_limits}
 use Rattle.choice.proofs.Table.{Filled, filled_none, filled_next, together-small, table-room}
 use Rattle.choice.proofs.rows.Goals as goal
@@ -37,8 +37,7 @@ pub loop-b-preserved : goal.loop-b-preserved
 loop-b-preserved c =
     let filled : Filled c.args.weights.now c.args.costs.now (suc (c.loop-b.b - 1)) c.loop-b.behind c.loop-b.picks = let one : c.loop-b.b ≡ suc (c.loop-b.b - 1) = omega arith in
     rw one at c.loop-b.invariant.2 in
-    let here = filled in
-    (
+    let here = filled in (
       c.row.auto.picks ∙ c.loop-b.invariant.0,
       c.row.auto.behind ∙ c.loop-b.invariant.1,
       filled_next c.requires.0 (c.loop-b.b - 1) here.upto here c.requires.1 c.row.ensures,

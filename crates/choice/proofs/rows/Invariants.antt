@@ -1,10 +1,9 @@
 -- The proof of `rows`: the table is filled from the block at hand on.
-use mathlib.Core.Path.{◌≡◌, refl, sym, ap, ◌∙◌}
-use Prim.Native.Nat.{ℕ, suc, ◌-◌, ◌*◌, ◌^◌, ◌≤◌}
-use native.Mathlib.Omega.{arith}
-use lib.ListN.{length, get_or-replicate}
+use mathlib.Core.Path.{◌≡◌}
+use Prim.Native.Nat.{◌^◌}
+use lib.ListN.{length}
 use Rattle.yard.specs.Limits.{first_limits}
-use Rattle.choice.proofs.Table.{Filled, filled_none, filled_next, together-small, table-room}
+use Rattle.choice.proofs.Table.{Filled}
 use Rattle.choice.proofs.rows.Given as goal
 
 abbrev pub invariant-loop-b : goal.invariant-loop-b

@@ -1,5 +1,4 @@
 -- The proof of `allowed_codes`: behind the codes that are not allowed stand those that are.
-use borrow.Author.Rules.{rules}
 use Rattle.codes.proofs.Allowed.{allowed-part}
 use Rattle.codes.proofs.allowed_codes.Goals as goal
 

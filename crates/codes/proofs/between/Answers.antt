@@ -1,7 +1,6 @@
 -- The proof of `between`: the zeros at one end of a byte are no more than its bits.
 use native.Mathlib.Omega.{arith}
 use lib.Count.{leading_le, trailing_le}
-use borrow.Author.Rules.{rules}
 use Rattle.yard.specs.Limits.{first_limits}
 use Rattle.codes.proofs.between.Goals as goal
 

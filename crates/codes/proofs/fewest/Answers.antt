@@ -1,6 +1,5 @@
 -- The proof of `fewest`: the table's entry up to its end, and above it what is worked out.
 use mathlib.Core.Path.{◌∙◌}
-use borrow.Author.Rules.{rules}
 use Rattle.codes.proofs.Gap.{entry-within, told-fewest}
 use Rattle.codes.proofs.fewest.Goals as goal
 

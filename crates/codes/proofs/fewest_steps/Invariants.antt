@@ -1,18 +1,12 @@
 -- The proof of `fewest_steps`: the codes are F of the steps taken, and the ring holds what the next steps lose.
-use mathlib.Core.Path.{◌≡◌, refl, sym, ap, ◌∙◌}
-use Prim.Native.Nat.{ℕ, suc, ◌-◌, ◌≤◌, ◌<◌}
-use native.Mathlib.Nat.{sub-zero}
-use native.Mathlib.Omega.{arith}
-use native.Mathlib.Numerals.{add-one}
+use mathlib.Core.Path.{◌≡◌}
+use Prim.Native.Nat.{◌-◌, ◌≤◌}
 use lib.ListN.{length}
-use borrow.Author.Tests.{lt-leb}
 use Rattle.yard.specs.Words.{first}
 use Rattle.yard.specs.Limits.{limits}
 use Rattle.yard.specs.Codes.{F, fewest_steps}
-use Rattle.yard.proofs.general.First.{first_goes}
-use Rattle.yard.proofs.yards.Counting.{F-above}
 use Rattle.codes.specs.Ring.{Ring}
-use Rattle.codes.proofs.Steps.{F-next, ring-first, enough, fewest-found}
+use Rattle.codes.proofs.Steps.{enough}
 use Rattle.codes.proofs.fewest_steps.Given as goal
 
 abbrev pub invariant-loop-codes : goal.invariant-loop-codes

@@ -1,6 +1,5 @@
 -- The proof of `fewest_tracks`: a code of 16 bits is one of the most steps.
 use native.Mathlib.Omega.{arith}
-use borrow.Author.Rules.{rules}
 use Rattle.codes.proofs.fewest_tracks.Goals as goal
 
 pub fewest-requires : goal.fewest-requires

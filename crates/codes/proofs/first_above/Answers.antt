@@ -1,14 +1,13 @@
 -- The proof of `first_above`: what is left of the search finds what the whole search finds.
 use mathlib.Core.Path.{◌≡◌, ◌∙◌}
-use Prim.Native.Nat.{◌-◌, ◌^◌, ◌≤◌, ◌<◌}
+use Prim.Native.Nat.{◌^◌, ◌<◌}
 use native.Mathlib.Omega.{arith}
 use lib.ListN.{length, get_or}
 use borrow.Author.Tests.{lt-ltb, le-ltb}
 use Rattle.yard.specs.Limits.{limits, first_limits}
-use Rattle.yard.specs.Words.{first}
 use Rattle.yard.specs.Codes.{fewest_tracks}
 use Rattle.scan.proofs.Left.{left-start, left-hits, left-goes, left-ends}
-use Rattle.codes.specs.Wider.{wider, first_wider}
+use Rattle.codes.specs.Wider.{wider}
 use Rattle.codes.proofs.Gap.{entry-within, told-fewest}
 use Rattle.codes.proofs.first_above.Goals as goal
 
@@ -18,7 +17,7 @@ loop-i-init c =
     (omega arith, left-start (wider args.tracks args.codes.now) (length args.codes.now) 0)
 
 pub overflow_cast-codes : goal.overflow_cast-codes
-overflow_cast-codes c = 
+overflow_cast-codes c =
     let small : get_or c.args.codes.now c.loop-i.i 0 < 2 ^ first_limits.steps = c.requires.1 c.loop-i.i c.loop-i-test.true in
     omega (arith, small)
 

@@ -1,15 +1,9 @@
 -- The proof of `first_above`: what is left of the search finds what the whole search finds.
-use mathlib.Core.Path.{◌≡◌, ◌∙◌}
-use Prim.Native.Nat.{◌-◌, ◌^◌, ◌≤◌, ◌<◌}
-use native.Mathlib.Omega.{arith}
-use lib.ListN.{length, get_or}
-use borrow.Author.Tests.{lt-ltb, le-ltb}
-use Rattle.yard.specs.Limits.{limits, first_limits}
+use mathlib.Core.Path.{◌≡◌}
+use Prim.Native.Nat.{◌-◌, ◌≤◌}
+use lib.ListN.{length}
 use Rattle.yard.specs.Words.{first}
-use Rattle.yard.specs.Codes.{fewest_tracks}
-use Rattle.scan.proofs.Left.{left-start, left-hits, left-goes, left-ends}
 use Rattle.codes.specs.Wider.{wider, first_wider}
-use Rattle.codes.proofs.Gap.{entry-within, told-fewest}
 use Rattle.codes.proofs.first_above.Given as goal
 
 abbrev pub invariant-loop-i : goal.invariant-loop-i

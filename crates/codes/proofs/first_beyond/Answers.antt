@@ -1,14 +1,13 @@
 -- The proof of `first_beyond`: what is left of the search finds what the whole search finds.
 use mathlib.Core.Path.{◌≡◌, ◌∙◌}
-use Prim.Native.Nat.{◌-◌, ◌^◌, ◌≤◌, ◌<◌}
+use Prim.Native.Nat.{◌^◌, ◌<◌}
 use native.Mathlib.Omega.{arith}
 use lib.ListN.{length, get_or}
 use borrow.Author.Tests.{lt-ltb, le-ltb}
 use Rattle.yard.specs.Limits.{limits}
-use Rattle.yard.specs.Words.{first}
 use Rattle.yard.specs.Codes.{fewest_tracks}
 use Rattle.scan.proofs.Left.{left-start, left-hits, left-goes, left-ends}
-use Rattle.codes.specs.Wider.{wider, first_wider}
+use Rattle.codes.specs.Wider.{wider}
 use Rattle.codes.proofs.first_beyond.Goals as goal
 
 pub loop-i-init : goal.loop-i-init
@@ -17,7 +16,7 @@ loop-i-init c =
     (omega arith, left-start (wider args.tracks args.codes.now) (length args.codes.now) 0)
 
 pub overflow_cast-codes : goal.overflow_cast-codes
-overflow_cast-codes c = 
+overflow_cast-codes c =
     let small : get_or c.args.codes.now c.loop-i.i 0 < 2 ^ limits.steps = omega (arith, c.type_inv.codes c.loop-i.i) in
     omega (arith, small)
 

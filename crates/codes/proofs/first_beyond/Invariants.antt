@@ -1,13 +1,8 @@
 -- The proof of `first_beyond`: what is left of the search finds what the whole search finds.
-use mathlib.Core.Path.{◌≡◌, ◌∙◌}
-use Prim.Native.Nat.{◌-◌, ◌^◌, ◌≤◌, ◌<◌}
-use native.Mathlib.Omega.{arith}
-use lib.ListN.{length, get_or}
-use borrow.Author.Tests.{lt-ltb, le-ltb}
-use Rattle.yard.specs.Limits.{limits}
+use mathlib.Core.Path.{◌≡◌}
+use Prim.Native.Nat.{◌-◌, ◌≤◌}
+use lib.ListN.{length}
 use Rattle.yard.specs.Words.{first}
-use Rattle.yard.specs.Codes.{fewest_tracks}
-use Rattle.scan.proofs.Left.{left-start, left-hits, left-goes, left-ends}
 use Rattle.codes.specs.Wider.{wider, first_wider}
 use Rattle.codes.proofs.first_beyond.Given as goal
 

@@ -1,6 +1,5 @@
 -- The proof of `first_wider`: codes of few steps are codes of the table.
 use native.Mathlib.Nat.{lt_of_lt_of_le}
-use borrow.Author.Rules.{rules}
 use lib.Pow.{pow_mono}
 use Rattle.codes.proofs.first_wider.Goals as goal
 

@@ -4,7 +4,6 @@ use Prim.Native.Nat.{ℕ, ◌+◌, ◌%◌, ◌<◌}
 use native.Mathlib.Nat.{le_refl, mod-lt}
 use native.Mathlib.Omega.{arith}
 use lib.ListN.{length, set}
-use borrow.Author.Rules.{rules}
 use Rattle.codes.specs.Ring.{Ring}
 use Rattle.codes.proofs.Steps.{ring-next}
 use Rattle.codes.proofs.lost.Goals as goal

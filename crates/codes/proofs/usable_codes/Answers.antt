@@ -3,13 +3,11 @@ use mathlib.Core.Path.{◌≡◌, refl, sym, ap, ◌∙◌}
 use Prim.Native.Nat.{suc, ◌+◌, ◌-◌, ◌^◌, ◌≤◌}
 use native.Mathlib.Nat.{two-pow-succ}
 use native.Mathlib.Omega.{arith}
-use lib.ListN.{length, length-set}
+use lib.ListN.{length-set}
 use lib.Pow.{pow_mono}
 use Rattle.yard.specs.Limits.{limits}
-use Rattle.yard.specs.Codes.{F, usable_codes}
+use Rattle.yard.specs.Codes.{F}
 use Rattle.yard.proofs.yards.Counting.{F-above, F-more}
-use Rattle.scan.specs.Front.{Front}
-use Rattle.codes.specs.Ring.{Ring}
 use Rattle.codes.proofs.Steps.{F-next, ring-first}
 use Rattle.codes.proofs.Doubling.{written_none, written_all, written-number, written_small, written_next}
 use Rattle.codes.proofs.usable_codes.Goals as goal
@@ -18,15 +16,14 @@ pub bounds-into-0 : goal.bounds-into-0
 bounds-into-0 c = omega (arith, F-above c.args.tracks c.args.steps c.requires.0.0)
 
 pub loop-step-init : goal.loop-step-init
-loop-step-init c =
-    (
-      omega arith,
-      refl,
-      refl,
-      ring-first c.args.tracks c.requires.0.0 limits.tracks c.requires.0.1,
-      written_none c.args.tracks c.requires.0.0 c.args.into.now
-          (omega (arith, F-above c.args.tracks c.args.steps c.requires.0.0)),
-    )
+loop-step-init c = (
+  omega arith,
+  refl,
+  refl,
+  ring-first c.args.tracks c.requires.0.0 limits.tracks c.requires.0.1,
+  written_none c.args.tracks c.requires.0.0 c.args.into.now
+      (omega (arith, F-above c.args.tracks c.args.steps c.requires.0.0)),
+)
 
 pub slice_bounds-lost-end : goal.slice_bounds-lost-end
 slice_bounds-lost-end c = sym c.loop-step.invariant.2

@@ -1,12 +1,11 @@
 -- The proof of `with_bit`: behind the codes stand those passed, with the bit.
 use mathlib.Core.Path.{◌≡◌, refl, sym, ◌∙◌}
-use mathlib.Core.List.{List, ◌++◌, map}
-use Prim.Native.Nat.{ℕ, ◌+◌, ◌-◌, ◌≤◌}
+use mathlib.Core.List.{List, map}
+use Prim.Native.Nat.{ℕ, ◌+◌, ◌-◌}
 use native.Mathlib.Nat.{add_assoc}
 use native.Mathlib.Omega.{arith}
 use lib.ListN.{length, get_or, take, drop, length-set, length-drop}
 use lib.Seq.{get_or-drop, length-take-le, take-length}
-use Rattle.scan.specs.Front.{Front}
 use Rattle.scan.proofs.Front.{front-whole, front-first, front-through}
 use Rattle.codes.proofs.with_bit.Goals as goal
 

@@ -2,7 +2,6 @@
 use mathlib.Core.Path.{ap₂, ◌∙◌}
 use Prim.Native.Nat.{◌/◌, ◌%◌, ◌^◌, max, ◌<◌}
 use native.Mathlib.Omega.{arith}
-use borrow.Author.Rules.{rules}
 use Rattle.yard.specs.Limits.{first_limits}
 use Rattle.codes.proofs.Gap.{entry-within}
 use Rattle.codes.proofs.Bytes.{low_byte, high_byte, worked-out}

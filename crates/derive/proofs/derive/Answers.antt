@@ -2,7 +2,6 @@
 use mathlib.Core.Path.{◌≡◌, ap, ◌∙◌}
 use native.Mathlib.Omega.{arith}
 use lib.ListN.{length}
-use borrow.Author.Rules.{rules}
 use Rattle.yard.specs.declared.Limits.{Limits}
 use Rattle.yard.specs.Limits.{limits}
 use Rattle.yard.specs.Night.{Night, night_given}

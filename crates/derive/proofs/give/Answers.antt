@@ -1,6 +1,5 @@
 -- The proof of `give`: the usable codes of a few steps are no more than all codes of so many.
 use native.Mathlib.Nat.{le_trans}
-use borrow.Author.Rules.{rules}
 use lib.Pow.{pow_mono}
 use Rattle.codes.proofs.Steps.{F-le}
 use Rattle.derive.proofs.give.Goals as goal

@@ -1,7 +1,6 @@
 -- The proof of `give_with`: the list in which the numbers are looked up is that of the allowed codes.
 use mathlib.Core.Path.{ap}
 use native.Mathlib.Omega.{arith}
-use borrow.Author.Rules.{rules}
 use lib.ListN.{length}
 use Rattle.yard.specs.Codes.{code_number}
 use Rattle.yard.proofs.yards.Allowed.{F-allowed}

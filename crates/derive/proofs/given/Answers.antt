@@ -4,7 +4,6 @@ use mathlib.Core.Bool.{false}
 use mathlib.Core.List.{[], ◌∷◌}
 use native.Mathlib.Nat.{le_trans}
 use lib.ListN.{length}
-use borrow.Author.Rules.{rules}
 use Rattle.yard.specs.Answers.{verdict}
 use Rattle.yard.specs.declared.Answer.{Answer}
 use Rattle.intake.proofs.Passed.{counts-within}

@@ -1,29 +1,28 @@
 -- The proof of `look_up`: the numbers passed have become items.
-use mathlib.Core.List.{[], map}
+use mathlib.Core.List.{[]}
 use mathlib.Core.Path.{◌≡◌, refl, ◌∙◌}
-use Prim.Native.Nat.{ℕ, ◌-◌, ◌≤◌, ◌<◌}
+use Prim.Native.Nat.{ℕ, ◌<◌}
 use native.Mathlib.Omega.{arith}
 use lib.Seq.{take-length}
-use lib.ListN.{length, get_or, take, length-set}
+use lib.ListN.{length, get_or, length-set}
 use Rattle.scan.proofs.Front.{front-none, front-through, front-end, front-behind}
-use Rattle.scan.specs.Front.{Front}
 use Rattle.derive.proofs.look_up.Goals as goal
 
 pub loop-i-init : goal.loop-i-init
 loop-i-init c = (omega arith, refl, front-none c.args.numbers.now)
 
 pub overflow_cast-q : goal.overflow_cast-q
-overflow_cast-q c = 
+overflow_cast-q c =
     let fits : get_or c.loop-i.numbers c.loop-i.i 0 < length c.args.items.now = omega (arith, c.requires c.loop-i.i c.loop-i-test.true, front-behind c.loop-i.invariant.2) in
     omega (arith, fits)
 
 pub offset_bounds-items-q : goal.offset_bounds-items-q
-offset_bounds-items-q c = 
+offset_bounds-items-q c =
     let fits : get_or c.loop-i.numbers c.loop-i.i 0 < length c.args.items.now = omega (arith, c.requires c.loop-i.i c.loop-i-test.true, front-behind c.loop-i.invariant.2) in
     omega (arith, fits)
 
 pub bounds-items-q : goal.bounds-items-q
-bounds-items-q c = 
+bounds-items-q c =
     let fits : get_or c.loop-i.numbers c.loop-i.i 0 < length c.args.items.now = omega (arith, c.requires c.loop-i.i c.loop-i-test.true, front-behind c.loop-i.invariant.2) in
     fits
 

@@ -1,11 +1,8 @@
 -- The proof of `look_up`: the numbers passed have become items.
-use mathlib.Core.List.{[], map}
-use mathlib.Core.Path.{◌≡◌, refl, ◌∙◌}
-use Prim.Native.Nat.{ℕ, ◌-◌, ◌≤◌, ◌<◌}
-use native.Mathlib.Omega.{arith}
-use lib.Seq.{take-length}
-use lib.ListN.{length, get_or, take, length-set}
-use Rattle.scan.proofs.Front.{front-none, front-through, front-end, front-behind}
+use mathlib.Core.List.{map}
+use mathlib.Core.Path.{◌≡◌}
+use Prim.Native.Nat.{◌≤◌}
+use lib.ListN.{length, get_or, take}
 use Rattle.scan.specs.Front.{Front}
 use Rattle.derive.proofs.look_up.Given as goal
 

@@ -1,7 +1,6 @@
 -- The proof of `needed`: there are fewer breaks than cars, so one more is still within the limits.
 use Prim.Native.Nat.{◌+◌, ◌≤◌}
 use native.Mathlib.Omega.{arith}
-use borrow.Author.Rules.{rules}
 use Rattle.yard.specs.Limits.{limits}
 use Rattle.yard.proofs.general.Lists.{tally-small}
 use Rattle.derive.proofs.Coded.{needs-all}
@@ -13,7 +12,7 @@ numbers-most-requires c =
     (pre.lists, pre.cars.1, pre.room)
 
 pub overflow_add-most : goal.overflow_add-most
-overflow_add-most c = 
+overflow_add-most c =
     let within : c.numbers-most.result + c.tally.result ≤ limits.cars = omega (
       arith,
       c.numbers-most.ensures.few,
@@ -25,7 +24,7 @@ overflow_add-most c =
     omega (arith, within)
 
 pub fewest_steps-requires : goal.fewest_steps-requires
-fewest_steps-requires c = 
+fewest_steps-requires c =
     let within : c.numbers-most.result + c.tally.result ≤ limits.cars = omega (
       arith,
       c.numbers-most.ensures.few,

@@ -1,6 +1,5 @@
 -- The proof of `plan_with`: the steps are those that the night needs, and the codes given are those of the derived plan.
 use native.Mathlib.Omega.{arith}
-use borrow.Author.Rules.{rules}
 use Rattle.yard.specs.Derived.{derived_plan}
 use Rattle.yard.specs.Night.{Night, night_of}
 use Rattle.yard.proofs.yards.DerivedPlan.{derived-sorts}

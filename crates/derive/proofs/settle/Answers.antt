@@ -4,7 +4,6 @@ use mathlib.Core.List.{List, ◌++◌}
 use Prim.Native.Nat.{ℕ}
 use lib.ListN.{length, drop}
 use lib.Seq.{take-length}
-use borrow.Author.Rules.{rules}
 use Rattle.derive.proofs.Answered.{settles-full, settles-fits}
 use Rattle.derive.proofs.settle.Goals as goal
 

@@ -1,7 +1,6 @@
 -- The proof of `plan`: the steps are enough or not, and the codes found have the fewest passes.
 use Prim.Native.Nat.{◌≤◌}
 use native.Mathlib.Omega.{arith}
-use borrow.Author.Rules.{rules}
 use Rattle.yard.specs.Derived.{steps_needed}
 use Rattle.yard.specs.Night.{Night, night_of}
 use Rattle.yard.proofs.calls.Larger.{first-at-most, larger-derive}

@@ -1,6 +1,5 @@
 -- The proof of `head_length`: the bits of the head in whole bytes.
 use mathlib.Core.Path.{ap, ◌∙◌}
-use borrow.Author.Rules.{rules}
 use Rattle.yard.specs.Night.{sum}
 use Rattle.yard.specs.Bits.{whole_bytes}
 use Rattle.yard.specs.Card.{head_widths, head_length}

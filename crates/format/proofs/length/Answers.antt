@@ -1,7 +1,6 @@
 -- The proof of `length`: the bits in whole bytes.
 use mathlib.Core.Path.{ap, ◌∙◌}
 use native.Mathlib.Omega.{arith}
-use borrow.Author.Rules.{rules}
 use Rattle.yard.specs.Bits.{whole_bytes}
 use Rattle.yard.specs.Card.{card_length}
 use Rattle.format.proofs.Widths.{end_is, end-bounded}

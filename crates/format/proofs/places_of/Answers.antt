@@ -2,7 +2,6 @@
 use Prim.Native.Nat.{◌*◌, ◌≤◌}
 use native.Mathlib.Nat.{mul-le-mul}
 use native.Mathlib.Omega.{arith}
-use borrow.Author.Rules.{rules}
 use Rattle.format.proofs.places_of.Goals as goal
 
 pub overflow_mul-inbound : goal.overflow_mul-inbound

@@ -1,13 +1,11 @@
 -- The proof of `copy`: the buffer holds the items passed, and behind them its old ones.
 use mathlib.Core.Path.{◌≡◌, refl, ◌∙◌}
-use mathlib.Core.List.{◌++◌}
-use Prim.Native.Nat.{◌-◌, ◌≤◌, zero-le}
+use Prim.Native.Nat.{zero-le}
 use native.Mathlib.Nat.{zero-add}
 use native.Mathlib.Numerals.{add-one}
 use native.Mathlib.Omega.{arith}
-use lib.ListN.{length, take, drop, length-set}
+use lib.ListN.{length-set}
 use lib.Seq.{paste-suc}
-use borrow.Author.Rules.{rules}
 use Rattle.intake.proofs.copy.Goals as goal
 
 pub loop-i-init : goal.loop-i-init

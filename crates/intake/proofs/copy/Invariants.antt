@@ -1,13 +1,8 @@
 -- The proof of `copy`: the buffer holds the items passed, and behind them its old ones.
-use mathlib.Core.Path.{◌≡◌, refl, ◌∙◌}
+use mathlib.Core.Path.{◌≡◌}
 use mathlib.Core.List.{◌++◌}
-use Prim.Native.Nat.{◌-◌, ◌≤◌, zero-le}
-use native.Mathlib.Nat.{zero-add}
-use native.Mathlib.Numerals.{add-one}
-use native.Mathlib.Omega.{arith}
-use lib.ListN.{length, take, drop, length-set}
-use lib.Seq.{paste-suc}
-use borrow.Author.Rules.{rules}
+use Prim.Native.Nat.{◌≤◌}
+use lib.ListN.{length, take, drop}
 use Rattle.intake.proofs.copy.Given as goal
 
 abbrev pub invariant-loop-i : goal.invariant-loop-i

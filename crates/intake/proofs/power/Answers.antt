@@ -2,7 +2,6 @@
 use native.Mathlib.Nat.{one-mul, mod-eq_of_lt, lt_of_le_of_lt}
 use lib.Dec.{lit<}
 use lib.Pow.{pow_mono}
-use borrow.Author.Rules.{rules}
 use Rattle.intake.proofs.power.Goals as goal
 
 pub returns : goal.returns

@@ -1,12 +1,8 @@
 -- The proof of `cars`: the cars passed stand behind the first bytes.
-use Prim.Native.Nat.{◌-◌, ◌≤◌}
-use mathlib.Core.Path.{◌≡◌, ap}
-use native.Mathlib.Omega.{arith}
+use Prim.Native.Nat.{◌≤◌}
 use Rattle.yard.specs.Words.{up_from}
 use Rattle.lines.specs.Text.{Adds}
 use Rattle.lines.specs.Lines.{car_list}
-use Rattle.lines.proofs.Adding.{adds_none, adds_same}
-use Rattle.lines.proofs.Listing.{adds-car}
 use Rattle.lines.proofs.cars.Given as goal
 
 abbrev pub invariant-loop-i : goal.invariant-loop-i

@@ -1,5 +1,4 @@
 -- The proof of `counts`: one piece behind another.
-use borrow.Author.Rules.{rules}
 use Rattle.lines.specs.Lines.{counts_line}
 use Rattle.lines.proofs.Adding.{adds_then}
 use Rattle.lines.proofs.counts.Goals as goal

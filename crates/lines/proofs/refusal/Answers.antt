@@ -1,5 +1,4 @@
 -- The proof of `refusal`: one piece behind another.
-use borrow.Author.Rules.{rules}
 use Rattle.lines.specs.Lines.{refusal_line}
 use Rattle.lines.proofs.Adding.{adds_then}
 use Rattle.lines.proofs.refusal.Goals as goal

@@ -1,5 +1,4 @@
 -- The proof of `train`: one piece behind another.
-use borrow.Author.Rules.{rules}
 use Rattle.lines.specs.Lines.{train_line}
 use Rattle.lines.proofs.Adding.{adds_then}
 use Rattle.lines.proofs.train.Goals as goal

@@ -1,11 +1,9 @@
 -- The proof of `trains`: the lines of the trains passed stand behind the first bytes.
-use Prim.Native.Nat.{suc, ◌-◌, ◌≤◌}
-use mathlib.Core.Path.{◌≡◌, ap, ◌∙◌}
+use mathlib.Core.Path.{◌≡◌, ap}
 use native.Mathlib.Omega.{arith}
-use lib.ListN.{length, take}
-use Rattle.yard.specs.Night.{sum, cars_of}
+use lib.ListN.{length}
+use Rattle.yard.specs.Night.{cars_of}
 use Rattle.yard.proofs.yards.Trains.{train-end}
-use Rattle.lines.specs.Text.{Adds}
 use Rattle.lines.specs.Lines.{train_line, each_to}
 use Rattle.lines.proofs.Adding.{adds_none, adds_same}
 use Rattle.lines.proofs.Listing.{adds-train, next-first}

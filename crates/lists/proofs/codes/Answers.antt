@@ -1,7 +1,6 @@
 -- The proof of `codes`: the search where the largest code is too large, and nothing to find where it is not.
 use mathlib.Core.Path.{◌∙◌}
 use native.Mathlib.Omega.{arith}
-use borrow.Author.Rules.{rules}
 use Rattle.lists.proofs.Wide.{none-wide}
 use Rattle.lists.proofs.codes.Goals as goal
 

@@ -2,7 +2,6 @@
 use mathlib.Core.Path.{sym, ◌∙◌}
 use Prim.Native.Nat.{◌-◌}
 use native.Mathlib.Omega.{arith}
-use Rattle.yard.proofs.general.Bools.{not-true, not-false}
 use Rattle.lists.proofs.first_listing.Goals as goal
 
 pub overflow_cast-car : goal.overflow_cast-car

@@ -6,7 +6,6 @@ use lib.Dec.{ltb}
 use lib.ListN.{length}
 use Rattle.yard.specs.Answers.{says, train_test, sum_test, first_bad, first_listing, inbound_test}
 use Rattle.yard.proofs.calls.Verdict.{stops, goes_on, last-is}
-use borrow.Author.Rules.{rules}
 use Rattle.lists.proofs.lists.Goals as goal
 
 pub returns-then-filled-ne0 : goal.returns-then-filled-ne0

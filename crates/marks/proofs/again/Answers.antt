@@ -1,6 +1,5 @@
 -- The proof of `again`: a car that is marked was met before.
 use native.Mathlib.Omega.{arith}
-use borrow.Author.Rules.{rules}
 use Rattle.scan.proofs.Range.{between}
 use Rattle.marks.proofs.Marks.{looked}
 use Rattle.marks.proofs.again.Goals as goal

@@ -1,6 +1,5 @@
 -- The proof of `bad`: by cases on the range.
 use mathlib.Core.Path.{sym, ◌∙◌}
-use borrow.Author.Rules.{rules}
 use Rattle.marks.proofs.Marks.{looked-out}
 use Rattle.marks.proofs.bad.Goals as goal
 

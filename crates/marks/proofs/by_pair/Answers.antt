@@ -1,9 +1,8 @@
 -- The proof of `by_pair`: none of the places looked at so far is bad, and each look says that of one more.
 use borrow.Author.Rules.{rules}
 use mathlib.Core.Path.{◌≡◌, refl, subst}
-use Prim.Native.Nat.{◌+◌, ◌-◌, ◌≤◌}
+use Prim.Native.Nat.{◌+◌, ◌-◌}
 use native.Mathlib.Omega.{arith}
-use lib.ListN.{length}
 use Rattle.yard.specs.Answers.{in_range}
 use Rattle.marks.specs.Marks.{Sought}
 use Rattle.scan.proofs.Running.{each}

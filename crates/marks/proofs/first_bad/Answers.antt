@@ -1,7 +1,6 @@
 -- The proof of `first_bad`: there are marks enough, and each way finds the first bad place.
 use mathlib.Core.Path.{sym, ◌∙◌}
 use Prim.Native.Nat.{◌/◌}
-use borrow.Author.Rules.{rules}
 use Rattle.yard.specs.Limits.{limits}
 use Rattle.marks.proofs.Marks.{nothing-sought}
 use Rattle.marks.proofs.first_bad.Goals as goal

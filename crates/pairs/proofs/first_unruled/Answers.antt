@@ -1,9 +1,8 @@
 -- The proof of `first_unruled`: of the trains passed no pair breaks the rule.
 use mathlib.Core.Path.{◌≡◌, ◌∙◌, subst}
-use Prim.Native.Nat.{ℕ, ◌-◌}
+use Prim.Native.Nat.{ℕ}
 use native.Mathlib.Omega.{arith}
 use lib.ListN.{length}
-use Rattle.trains.specs.Walk.{Walked}
 use Rattle.trains.proofs.Walk.{walked_none, walked_all}
 use Rattle.pairs.specs.Pairs.{Part}
 use Rattle.pairs.proofs.Pairs.{Passed, passed-all, train-part, train-passed, train-found}
@@ -18,14 +17,14 @@ end-end-requires c =
     (c.loop-t.invariant.0, c.loop-t-test.true, omega (arith, pre.all, pre.few))
 
 pub unruled_pairs-requires : goal.unruled_pairs-requires
-unruled_pairs-requires c = 
+unruled_pairs-requires c =
     let part : let args = c.args in
     Part args.places.now args.codes.now c.loop-t.before c.end-end.result = train-part c.args.lengths.now c.args.places.now c.args.codes.now c.requires c.loop-t-test.true
     c.loop-t.invariant.0 c.end-end.ensures in
     part
 
 pub unruled_in-requires : goal.unruled_in-requires
-unruled_in-requires c = 
+unruled_in-requires c =
     let part : let args = c.args in
     Part args.places.now args.codes.now c.loop-t.before c.end-end.result = train-part c.args.lengths.now c.args.places.now c.args.codes.now c.requires c.loop-t-test.true
     c.loop-t.invariant.0 c.end-end.ensures in

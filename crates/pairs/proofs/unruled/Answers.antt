@@ -5,7 +5,6 @@ use lib.ListN.{get_or}
 use Prim.Native.Nat.{◌-◌}
 use Rattle.yard.specs.Answers.{ruled}
 use Rattle.pairs.proofs.Pairs.{by_index}
-use borrow.Author.Rules.{rules}
 use Rattle.pairs.proofs.unruled.Goals as goal
 
 pub returns : goal.returns

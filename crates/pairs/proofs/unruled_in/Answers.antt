@@ -1,10 +1,7 @@
 -- The proof of `unruled_in`: what is left of the search finds what the whole search finds.
 use mathlib.Core.Path.{◌≡◌, refl, sym, ◌∙◌}
-use Prim.Native.Nat.{◌+◌, ◌-◌, ◌≤◌}
 use native.Mathlib.Omega.{arith}
-use Rattle.yard.specs.Words.{first}
 use Rattle.scan.proofs.Left.{left-hits, left-goes, left-ends}
-use Rattle.pairs.specs.Pairs.{unruled_by}
 use Rattle.pairs.proofs.unruled_in.Goals as goal
 
 pub overflow_step-j : goal.overflow_step-j

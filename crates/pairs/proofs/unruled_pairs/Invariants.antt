@@ -1,12 +1,8 @@
 -- The proof of `unruled_pairs`: the pairs counted are those of the cars passed.
-use mathlib.Core.Path.{◌≡◌, sym, ap, ◌∙◌}
-use Prim.Native.Nat.{ℕ, ◌+◌, ◌-◌, ◌≤◌}
-use native.Mathlib.Nat.{sub_self}
-use native.Mathlib.Omega.{arith}
+use mathlib.Core.Path.{◌≡◌}
+use Prim.Native.Nat.{◌+◌, ◌-◌, ◌≤◌}
 use Rattle.yard.specs.Words.{tally, total, up_from}
 use Rattle.pairs.specs.Pairs.{unruled_by}
-use Rattle.scan.proofs.Running.{tally-most}
-use Rattle.pairs.proofs.Pairs.{count_next}
 use Rattle.pairs.proofs.unruled_pairs.Given as goal
 
 abbrev pub invariant-loop-j : goal.invariant-loop-j

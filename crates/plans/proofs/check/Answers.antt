@@ -5,7 +5,6 @@ use lib.ListN.{length}
 use Rattle.yard.specs.Night.{Plan, plan_of}
 use Rattle.yard.specs.Demands.{Listed}
 use Rattle.plans.proofs.Chain.{Counts, counts-passed, given-passed, counted, check-counts, check-given, check_sound, check-ordered}
-use borrow.Author.Rules.{rules}
 use Rattle.plans.proofs.check.Goals as goal
 
 pub returns-then-counted-ne0 : goal.returns-then-counted-ne0

@@ -6,7 +6,6 @@ use Rattle.yard.specs.Words.{place, first}
 use Rattle.pairs.specs.Pairs.{unruled_at}
 use Rattle.plans.proofs.Worked.{part-front}
 use mathlib.Core.Path.{ap, ◌∙◌}
-use borrow.Author.Rules.{rules}
 use Rattle.plans.proofs.first_pair_with.Goals as goal
 
 pub returns : goal.returns

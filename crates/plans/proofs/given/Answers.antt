@@ -8,7 +8,6 @@ use Rattle.yard.specs.Answers.{says, list_test, verdict}
 use Rattle.yard.proofs.calls.Verdict.{last-is, verdict-append, verdict-nested}
 use Rattle.yard.specs.declared.Answer.{Answer}
 use Rattle.lists.specs.Tests.{list_tests}
-use borrow.Author.Rules.{rules}
 use Rattle.plans.proofs.given.Goals as goal
 
 pub returns : goal.returns

@@ -10,7 +10,6 @@ use borrow.Author.Tests.{lt-leb, le-leb}
 use Rattle.yard.specs.Answers.{says, test, verdict}
 use Rattle.sorting.specs.Sums.{set_below, fullest_of}
 use Rattle.plans.specs.Worked.{first_pair}
-use borrow.Author.Rules.{rules}
 use Rattle.plans.proofs.ordered.Goals as goal
 
 pub returns-then-j-codes : goal.returns-then-j-codes

@@ -7,7 +7,6 @@ use lib.ListN.{length}
 use Rattle.yard.specs.Answers.{says, list_test}
 use Rattle.yard.proofs.calls.Verdict.{stops, goes_on, stops-all, goes-on-all, last-is}
 use Rattle.plans.specs.Worked.{given_tests}
-use borrow.Author.Rules.{rules}
 use Rattle.plans.proofs.placed.Goals as goal
 
 pub returns-then-listed-ne0 : goal.returns-then-listed-ne0

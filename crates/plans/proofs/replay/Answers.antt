@@ -6,7 +6,6 @@ use Rattle.yard.specs.Night.{Plan, plan_of}
 use Rattle.yard.specs.Answers.{says}
 use Rattle.plans.proofs.Chain.{Counts, counts-passed}
 use Rattle.plans.proofs.AtStage.{Ready, replay-counts, replay-stage, replay-given, replay-ready, replay-sound, replay-stood}
-use borrow.Author.Rules.{rules}
 use Rattle.plans.proofs.replay.Goals as goal
 
 pub returns-then-counted-ne0 : goal.returns-then-counted-ne0

@@ -1,5 +1,5 @@
 -- `price::done` meets its contract: no product or sum passes 2^53, and `seconds` gives the double.
-use Rattle.std.proofs.Common.{ap, rules}
+use Rattle.std.proofs.Common.{ap}
 use Rattle.yard.specs.Answers.{says}
 use Rattle.yard.specs.Price.{priced}
 use Rattle.price.proofs.done.Goals as goal

@@ -1,5 +1,5 @@
 -- `price::price` meets its contract: each way out is one of the reasons for which the yard is told its answer.
-use Rattle.std.proofs.Common.{◌≡◌, ℕ, ◌+◌, ◌*◌, ◌^◌, ◌<◌, Bool, true, false, cond, sym, refl, ap, ◌∙◌, arith, rules}
+use Rattle.std.proofs.Common.{◌≡◌, ℕ, ◌+◌, ◌*◌, ◌^◌, ◌<◌, Bool, true, false, cond, sym, refl, ap, ◌∙◌, arith}
 use mathlib.Core.Path.{subst⁻¹}
 use Rattle.price.specs.declared.Timing.TheVariants.{Sixteenths, NotAllowed}
 use Rattle.yard.specs.Limits.{limits}

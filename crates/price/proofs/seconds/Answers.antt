@@ -1,6 +1,6 @@
 -- `price::seconds` meets its contract: one sixteenth of a whole number below 2^53 is rounded nowhere.
 use lib.Ieee.{of_bits}
-use Rattle.std.proofs.Common.{ap, ◌∙◌, rules}
+use Rattle.std.proofs.Common.{ap, ◌∙◌}
 use Rattle.yard.proofs.prices.Price.{one-sixteenth, sixteenth}
 use lib.Ieee.{Float, mul, binary64}
 use Rattle.price.proofs.seconds.Goals as goal

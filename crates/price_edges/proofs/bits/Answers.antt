@@ -3,7 +3,6 @@ use mathlib.Core.Path.{◌≡◌}
 use mathlib.Core.Bool.{true, not, false≢true}
 use lib.Dec.{T}
 use lib.Ieee.{Float, nan, inf, fin, eq, is_nan}
-use borrow.Author.Rules.{rules}
 use Rattle.price_edges.proofs.bits.Goals as goal
 
 number : (x : Float) → eq x x ≡ true → T (not (is_nan x))

@@ -1,6 +1,5 @@
 -- The proof of `derived`: what derive refuses is told, and the plan that it derives is drawn.
 use lib.ListN.{length}
-use borrow.Author.Rules.{rules}
 use Rattle.yard.specs.Night.{night_of}
 use Rattle.report.specs.Programs.{card_in}
 use Rattle.lines.proofs.Adding.{adds_same}

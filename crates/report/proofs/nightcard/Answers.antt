@@ -1,5 +1,4 @@
 -- The proof of `nightcard`: its text is what is put out for the card.
-use borrow.Author.Rules.{rules}
 use Rattle.report.specs.Programs.{nightcard_text}
 use Rattle.report.proofs.nightcard.Goals as goal
 

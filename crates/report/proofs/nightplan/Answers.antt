@@ -1,5 +1,4 @@
 -- The proof of `nightplan`: its text is what is put out for the card.
-use borrow.Author.Rules.{rules}
 use Rattle.report.specs.Programs.{nightplan_in}
 use Rattle.report.proofs.nightplan.Goals as goal
 

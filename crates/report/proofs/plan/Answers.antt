@@ -1,6 +1,5 @@
 -- The proof of `plan`: what check refuses is told, and what it accepts is put out.
 use native.Mathlib.Omega.{arith}
-use borrow.Author.Rules.{rules}
 use Rattle.yard.specs.Night.{plan_given}
 use Rattle.lines.proofs.Adding.{adds_same, adds_then}
 use Rattle.report.proofs.Programs.{plan-good, plan-refused, plan-done}

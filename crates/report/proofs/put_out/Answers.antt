@@ -1,8 +1,6 @@
 -- The proof of `put_out`: what the reader refuses is told, and the plan that it reads is put out.
-use Prim.Native.Nat.{ℕ}
 use mathlib.Core.Path.{sym, ap}
 use lib.ListN.{length}
-use borrow.Author.Rules.{rules}
 use Rattle.report.specs.Programs.{out_of}
 use Rattle.lines.proofs.Adding.{adds_same, adds-end}
 use Rattle.report.proofs.Programs.{card-refused, card-done, lengths-within, inbound-within, codes-within}
@@ -14,7 +12,6 @@ returns-then-read-ne0 c =
     let out = out_of args.anew (length args.out.now) in
     let both = adds-end (adds_same (card-refused c.read-read.ensures out c.if-read-ne0.true) c.refusal.ensures) in
     record { adds = both.0; prefix_len = both.1 }
-
 
 pub slice_bounds-trains-end : goal.slice_bounds-trains-end
 slice_bounds-trains-end c =
@@ -32,7 +29,6 @@ returns-then-anew c =
     let both = adds-end (adds_same (card-done c.read-read.ensures (out_of args.anew size) out c.if-read-ne0.false) c.derived.ensures) in
     record { adds = both.0; prefix_len = both.1 }
 
-
 pub slice_bounds-plan-end : goal.slice_bounds-plan-end
 slice_bounds-plan-end c =
     codes-within c.read-read.ensures c.if-read-ne0.false
@@ -44,4 +40,3 @@ returns c =
     let out = ap (λ b. out_of b size) (sym c.if-anew.false) in
     let both = adds-end (adds_same (card-done c.read-read.ensures (out_of args.anew size) out c.if-read-ne0.false) c.plan.ensures) in
     record { adds = both.0; prefix_len = both.1 }
-

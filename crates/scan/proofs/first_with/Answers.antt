@@ -1,14 +1,7 @@
 -- The proof of `first_with`: what is left of the search finds what the whole search finds.
-use mathlib.Core.Bool.{Bool}
-use mathlib.Core.List.{List}
-use mathlib.Core.Path.{◌≡◌}
-use Prim.Native.Nat.{ℕ, ◌+◌, ◌-◌, ◌≤◌}
-use Rattle.yard.specs.Words.{first}
 use native.Mathlib.Omega.{arith}
-use lib.Dec.{eqb}
 use lib.ListN.{length}
 use borrow.Author.Tests.{eq-eqb, ne_eqb}
-use Rattle.yard.specs.Night.{item_of}
 use Rattle.yard.proofs.calls.Tests.{item-at}
 use Rattle.scan.proofs.Left.{left-start, place-hits, place-goes, place-ends}
 use Rattle.scan.proofs.first_with.Invariants.{has}

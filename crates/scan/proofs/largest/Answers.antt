@@ -1,9 +1,5 @@
 -- The proof of `largest`: the largest item passed, or of those left if that is larger, is the largest of all.
-use mathlib.Core.Path.{◌≡◌}
-use Prim.Native.Nat.{◌-◌, max, ◌≤◌}
 use native.Mathlib.Omega.{arith}
-use Rattle.yard.specs.Words.{most}
-use lib.ListN.{length, drop}
 use Rattle.scan.proofs.Running.{largest-next, largest-end}
 use Rattle.scan.proofs.largest.Goals as goal
 

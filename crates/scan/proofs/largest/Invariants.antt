@@ -1,10 +1,8 @@
 -- The proof of `largest`: the largest item passed, or of those left if that is larger, is the largest of all.
 use mathlib.Core.Path.{◌≡◌}
-use Prim.Native.Nat.{◌-◌, max, ◌≤◌}
-use native.Mathlib.Omega.{arith}
+use Prim.Native.Nat.{max, ◌≤◌}
 use Rattle.yard.specs.Words.{most}
 use lib.ListN.{length, drop}
-use Rattle.scan.proofs.Running.{largest-next, largest-end}
 use Rattle.scan.proofs.largest.Given as goal
 
 abbrev pub invariant-loop-i : goal.invariant-loop-i

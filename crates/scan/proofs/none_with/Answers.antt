@@ -1,11 +1,8 @@
 -- The proof of `none_with`: none of the items passed is the number, and none of those left, exactly if none is.
-use mathlib.Core.Path.{◌≡◌, refl}
-use mathlib.Core.Bool.{Bool, not, ◌&&◌}
-use Prim.Native.Nat.{ℕ, ◌-◌, ◌≤◌}
+use mathlib.Core.Path.{refl}
+use mathlib.Core.Bool.{not}
 use native.Mathlib.Omega.{arith}
 use lib.Dec.{eqb}
-use lib.ListN.{length, drop}
-use Rattle.yard.specs.Words.{every}
 use Rattle.scan.proofs.Running.{every-next, every-end}
 use Rattle.scan.proofs.none_with.Goals as goal
 

@@ -1,12 +1,10 @@
 -- The proof of `none_with`: none of the items passed is the number, and none of those left, exactly if none is.
-use mathlib.Core.Path.{◌≡◌, refl}
-use mathlib.Core.Bool.{Bool, not, ◌&&◌}
-use Prim.Native.Nat.{ℕ, ◌-◌, ◌≤◌}
-use native.Mathlib.Omega.{arith}
+use mathlib.Core.Path.{◌≡◌}
+use mathlib.Core.Bool.{not, ◌&&◌}
+use Prim.Native.Nat.{◌≤◌}
 use lib.Dec.{eqb}
 use lib.ListN.{length, drop}
 use Rattle.yard.specs.Words.{every}
-use Rattle.scan.proofs.Running.{every-next, every-end}
 use Rattle.scan.proofs.none_with.Given as goal
 
 abbrev pub invariant-loop-k : goal.invariant-loop-k

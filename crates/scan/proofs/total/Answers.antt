@@ -1,9 +1,9 @@
 -- The proof of `total`: the cars counted and those still to be counted are all.
 use mathlib.Core.Path.{◌≡◌, ap}
-use Prim.Native.Nat.{suc, ◌+◌, ◌-◌, ◌*◌, ◌≤◌}
+use Prim.Native.Nat.{suc, ◌+◌}
 use native.Mathlib.Numerals.{add-one}
 use native.Mathlib.Omega.{arith}
-use lib.ListN.{length, get_or, drop, drop_of_length-le}
+use lib.ListN.{get_or, drop, drop_of_length-le}
 use lib.Seq.{drop-cons}
 use Rattle.yard.specs.Night.{sum}
 use Rattle.scan.proofs.total.Goals as goal

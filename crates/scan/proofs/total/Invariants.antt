@@ -1,10 +1,7 @@
 -- The proof of `total`: the cars counted and those still to be counted are all.
-use mathlib.Core.Path.{◌≡◌, ap}
-use Prim.Native.Nat.{suc, ◌+◌, ◌-◌, ◌*◌, ◌≤◌}
-use native.Mathlib.Numerals.{add-one}
-use native.Mathlib.Omega.{arith}
-use lib.ListN.{length, get_or, drop, drop_of_length-le}
-use lib.Seq.{drop-cons}
+use mathlib.Core.Path.{◌≡◌}
+use Prim.Native.Nat.{◌+◌, ◌*◌, ◌≤◌}
+use lib.ListN.{length, drop}
 use Rattle.yard.specs.Night.{sum}
 use Rattle.scan.proofs.total.Given as goal
 

@@ -2,7 +2,6 @@
 use mathlib.Core.Path.{sym}
 use native.Mathlib.Omega.{arith}
 use Rattle.sorting.proofs.Sums.{never-above}
-use borrow.Author.Rules.{rules}
 use Rattle.sorting.proofs.first_above.Goals as goal
 
 pub returns-then-room-fullest : goal.returns-then-room-fullest

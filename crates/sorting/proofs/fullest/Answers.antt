@@ -1,6 +1,6 @@
 -- The proof of `fullest`: the largest so far is the largest of the steps passed.
 use mathlib.Core.Path.{◌≡◌, refl, ap, ◌∙◌}
-use Prim.Native.Nat.{ℕ, ◌-◌, ◌≤◌}
+use Prim.Native.Nat.{ℕ}
 use native.Mathlib.Omega.{arith}
 use Rattle.sorting.specs.Sums.{pull_of, fullest_of}
 use Rattle.scan.proofs.Running.{most-next}

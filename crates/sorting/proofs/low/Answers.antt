@@ -5,7 +5,6 @@ use native.Mathlib.Nat.{one-mul, mod-eq_of_lt}
 use native.Mathlib.Omega.{arith}
 use lib.Arith.{lt_of_le-ne}
 use lib.Pow.{pow_pos, pow-lt}
-use borrow.Author.Rules.{rules}
 use Rattle.sorting.proofs.low.Goals as goal
 
 -- 1 shifted below the width is the power

@@ -1,6 +1,5 @@
 -- The proof of `names`: the bit is the remainder by 2.
 use mathlib.Core.Path.{sym}
-use borrow.Author.Rules.{rules}
 use Rattle.yard.proofs.yards.Codes.{tally-bit}
 use Rattle.sorting.proofs.names.Goals as goal
 

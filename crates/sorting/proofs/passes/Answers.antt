@@ -6,7 +6,6 @@ use native.Mathlib.Omega.{arith}
 use lib.Count.{ones}
 use lib.ListN.{length, take, drop, take-append-drop, length-drop}
 use lib.Seq.{take_all}
-use borrow.Author.Rules.{rules}
 use Rattle.yard.specs.Limits.{limits}
 use Rattle.yard.proofs.general.Lists.{total-append}
 use Rattle.sorting.specs.Sums.{set_below}

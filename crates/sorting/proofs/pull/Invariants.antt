@@ -1,12 +1,8 @@
 -- The proof of `pull`: the cars counted and those still to be counted are all.
 use mathlib.Core.Path.{◌≡◌}
-use Prim.Native.Nat.{◌+◌, ◌-◌, ◌≤◌}
-use native.Mathlib.Omega.{arith}
-use lib.ListN.{length, get_or, drop}
-use Rattle.yard.specs.Words.{tally}
-use Rattle.yard.specs.Replay.{bit}
+use Prim.Native.Nat.{◌+◌, ◌≤◌}
+use lib.ListN.{length, drop}
 use Rattle.sorting.specs.Sums.{pull_of}
-use Rattle.scan.proofs.Running.{tally-most, total-next, total-end}
 use Rattle.sorting.proofs.pull.Given as goal
 
 abbrev pub invariant-loop-i : goal.invariant-loop-i

@@ -1,10 +1,8 @@
 -- The proof of `set_below`: the bits counted and those still to be counted are all.
 use lib.Count.{ones}
-use mathlib.Core.Path.{◌≡◌, ap}
-use Prim.Native.Nat.{◌+◌, ◌-◌, ◌*◌, ◌%◌, ◌^◌, ◌≤◌}
+use mathlib.Core.Path.{ap}
+use Prim.Native.Nat.{◌%◌, ◌^◌}
 use native.Mathlib.Omega.{arith}
-use lib.ListN.{length, drop}
-use Rattle.sorting.specs.Sums.{set_below}
 use Rattle.scan.proofs.Running.{total-next, total-end}
 use Rattle.sorting.proofs.set_below.Goals as goal
 

@@ -1,7 +1,6 @@
 -- The proof of `early`: what the search found, or nothing.
 use mathlib.Core.Path.{sym, ap, ◌∙◌}
 use Rattle.sorting.specs.Worked.{early_answer}
-use borrow.Author.Rules.{rules}
 use Rattle.sound.proofs.early.Goals as goal
 
 pub returns-in-At : goal.returns-in-At

@@ -6,7 +6,6 @@ use native.Mathlib.Omega.{arith}
 use borrow.Author.Tests.{le-leb, lt-leb}
 use Rattle.yard.specs.Answers.{says, test}
 use Rattle.sorting.specs.Sums.{pull_of, first_above}
-use borrow.Author.Rules.{rules}
 use Rattle.sound.proofs.full.Goals as goal
 
 pub returns-then-step-steps : goal.returns-then-step-steps

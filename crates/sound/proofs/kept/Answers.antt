@@ -3,7 +3,6 @@ use mathlib.Core.Path.{sym, ◌∙◌}
 use native.Mathlib.Omega.{arith}
 use Rattle.sound.proofs.Worked.{told-early}
 use Rattle.sound.proofs.Usable.{code_below, never-waits}
-use borrow.Author.Rules.{rules}
 use Rattle.sound.proofs.kept.Goals as goal
 
 pub first_wider-requires : goal.first_wider-requires

@@ -1,15 +1,14 @@
 -- The proof of `sound`: each test in its turn.
-use mathlib.Core.Path.{◌≡◌, sym, ap, ◌∙◌}
+use mathlib.Core.Path.{sym, ap, ◌∙◌}
 use mathlib.Core.List.{[], ◌∷◌}
 use native.Mathlib.Nat.{suc-ne-zero}
 use lib.Dec.{leb}
 use Rattle.yard.specs.declared.Answer.{Answer}
-use Rattle.yard.specs.Answers.{says, verdict, code_test, zero_test}
+use Rattle.yard.specs.Answers.{says, code_test, zero_test}
 use Rattle.yard.proofs.calls.Rights.{codes-passed}
 use Rattle.yard.proofs.calls.Verdict.{stops, goes_on, last-is}
 use Rattle.sorting.specs.Sums.{pull_of, first_above}
 use Rattle.sorting.specs.Worked.{wait_test, full_test}
-use borrow.Author.Rules.{rules}
 use Rattle.sound.proofs.sound.Goals as goal
 
 pub returns-then-below-ne0 : goal.returns-then-below-ne0

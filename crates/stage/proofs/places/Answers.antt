@@ -2,7 +2,6 @@
 use mathlib.Core.Path.{refl}
 use Prim.Native.Nat.{◌+◌}
 use native.Mathlib.Omega.{arith}
-use borrow.Author.Rules.{rules}
 use Rattle.yard.specs.Limits.{first_limits}
 use Rattle.stage.specs.Stages.{all_tracks}
 use Rattle.stage.proofs.Standing.{more-tracks}

@@ -1,12 +1,12 @@
 -- The proof of `places_with`: the cars passed have their place, and the counts are those of the cars passed.
 use mathlib.Core.Path.{refl}
-use Prim.Native.Nat.{◌-◌, ◌<◌}
+use Prim.Native.Nat.{◌<◌}
 use native.Mathlib.Omega.{arith}
 use lib.ListN.{length, get_or}
 use Rattle.yard.specs.Night.{item_of}
 use Rattle.yard.specs.Demands.{Within}
 use Rattle.stage.specs.Stages.{all_tracks}
-use Rattle.stage.proofs.Standing.{StoodTo, stood-none, car-within, track-below, count_fits, stood-next, stood-all}
+use Rattle.stage.proofs.Standing.{stood-none, car-within, track-below, count_fits, stood-next, stood-all}
 use Rattle.stage.proofs.places_with.Goals as goal
 
 pub loop-i-init : goal.loop-i-init
@@ -18,7 +18,7 @@ pub overflow_cast-car : goal.overflow_cast-car
 overflow_cast-car c = omega (arith, c.type_inv.order c.loop-i.i)
 
 pub overflow_sub-track : goal.overflow_sub-track
-overflow_sub-track c = 
+overflow_sub-track c =
     let within : let order = c.args.order.now in
     Within 1 (length order) (get_or order c.loop-i.i 0) = let a = c.args in
     car-within a.order.now a.on.now (length a.standing.now) a.at.now c.requires.0 c.loop-i-test.true in
@@ -40,7 +40,7 @@ bounds-on-car c =
     omega (arith, w.0, w.1, c.requires.0.given)
 
 pub overflow_cast-track : goal.overflow_cast-track
-overflow_cast-track c = 
+overflow_cast-track c =
     let below : let args = c.args in
     item_of args.on.now (get_or args.order.now c.loop-i.i 0) < length args.standing.now = let a = c.args in
     track-below a.order.now a.on.now (length a.standing.now) a.at.now c.requires.0 c.loop-i-test.true in
@@ -50,7 +50,7 @@ overflow_cast-track c =
     omega (arith, counted.0)
 
 pub offset_bounds-standing-track : goal.offset_bounds-standing-track
-offset_bounds-standing-track c = 
+offset_bounds-standing-track c =
     let below : let args = c.args in
     item_of args.on.now (get_or args.order.now c.loop-i.i 0) < length args.standing.now = let a = c.args in
     track-below a.order.now a.on.now (length a.standing.now) a.at.now c.requires.0 c.loop-i-test.true in
@@ -60,7 +60,7 @@ offset_bounds-standing-track c =
     omega (arith, counted.0)
 
 pub bounds-standing-track : goal.bounds-standing-track
-bounds-standing-track c = 
+bounds-standing-track c =
     let below : let args = c.args in
     item_of args.on.now (get_or args.order.now c.loop-i.i 0) < length args.standing.now = let a = c.args in
     track-below a.order.now a.on.now (length a.standing.now) a.at.now c.requires.0 c.loop-i-test.true in
@@ -70,14 +70,14 @@ bounds-standing-track c =
     counted.1
 
 pub overflow_sub-at : goal.overflow_sub-at
-overflow_sub-at c = 
+overflow_sub-at c =
     let within : let order = c.args.order.now in
     Within 1 (length order) (get_or order c.loop-i.i 0) = let a = c.args in
     car-within a.order.now a.on.now (length a.standing.now) a.at.now c.requires.0 c.loop-i-test.true in
     within.0
 
 pub offset_bounds-at-car : goal.offset_bounds-at-car
-offset_bounds-at-car c = 
+offset_bounds-at-car c =
     let within : let order = c.args.order.now in
     Within 1 (length order) (get_or order c.loop-i.i 0) = let a = c.args in
     car-within a.order.now a.on.now (length a.standing.now) a.at.now c.requires.0 c.loop-i-test.true in
@@ -92,7 +92,7 @@ bounds-at-car c =
     omega (arith, w.0, w.1, c.loop-i.invariant.places.size, c.requires.0.room)
 
 pub offset_bounds-standing-track-in-loop-i : goal.offset_bounds-standing-track-in-loop-i
-offset_bounds-standing-track-in-loop-i c = 
+offset_bounds-standing-track-in-loop-i c =
     let below : let args = c.args in
     item_of args.on.now (get_or args.order.now c.loop-i.i 0) < length args.standing.now = let a = c.args in
     track-below a.order.now a.on.now (length a.standing.now) a.at.now c.requires.0 c.loop-i-test.true in
@@ -102,7 +102,7 @@ offset_bounds-standing-track-in-loop-i c =
     omega (arith, counted.0)
 
 pub bounds-standing-track-in-loop-i : goal.bounds-standing-track-in-loop-i
-bounds-standing-track-in-loop-i c = 
+bounds-standing-track-in-loop-i c =
     let below : let args = c.args in
     item_of args.on.now (get_or args.order.now c.loop-i.i 0) < length args.standing.now = let a = c.args in
     track-below a.order.now a.on.now (length a.standing.now) a.at.now c.requires.0 c.loop-i-test.true in
@@ -119,7 +119,7 @@ overflow_add-standing c =
     omega (arith, fits)
 
 pub bounds-standing-track-in-loop-i-2 : goal.bounds-standing-track-in-loop-i-2
-bounds-standing-track-in-loop-i-2 c = 
+bounds-standing-track-in-loop-i-2 c =
     let below : let args = c.args in
     item_of args.on.now (get_or args.order.now c.loop-i.i 0) < length args.standing.now = let a = c.args in
     track-below a.order.now a.on.now (length a.standing.now) a.at.now c.requires.0 c.loop-i-test.true in

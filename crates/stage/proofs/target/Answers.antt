@@ -7,7 +7,6 @@ use lib.ListN.{get_or}
 use borrow.Author.Tests.{lt-ltb, le-ltb}
 use Rattle.yard.specs.Replay.{next_step}
 use Rattle.yard.proofs.yards.Replay.{next_step-from, next_step-le}
-use borrow.Author.Rules.{rules}
 use Rattle.stage.proofs.target.Goals as goal
 
 pub returns-then-steps-stage : goal.returns-then-steps-stage

@@ -1,9 +1,8 @@
 -- The proof of `tracks`: the cars of the trains passed have their tracks, and the rest stays.
-use Prim.Native.Nat.{◌-◌, ◌≤◌}
+use Prim.Native.Nat.{◌≤◌}
 use native.Mathlib.Omega.{arith}
 use lib.ListN.{length}
-use borrow.Author.Rules.{rules}
-use Rattle.stage.proofs.ByTrain.{TracksTo, tracks-none, end-within, tracks-next, tracks-all}
+use Rattle.stage.proofs.ByTrain.{tracks-none, end-within, tracks-next, tracks-all}
 use Rattle.stage.proofs.tracks.Goals as goal
 
 pub turns-requires : goal.turns-requires
@@ -29,49 +28,49 @@ offset_bounds-codes-before c =
     omega (arith, within.0, within.1, c.requires.few)
 
 pub slice_bounds-train_tracks-count : goal.slice_bounds-train_tracks-count
-slice_bounds-train_tracks-count c = 
+slice_bounds-train_tracks-count c =
     let within : (c.loop-t.before ≤ c.end-end.result) × (c.end-end.result ≤ length c.args.codes.now) × (c.end-end.result ≤ length c.loop-t.on) = let a = c.args in
     end-within a.lengths.now a.codes.now a.tracks a.steps a.stage a.on.now c.requires
     c.loop-t-test.true c.loop-t.invariant c.end-end.ensures in
     within.0
 
 pub slice_bounds-train_tracks-start : goal.slice_bounds-train_tracks-start
-slice_bounds-train_tracks-start c = 
+slice_bounds-train_tracks-start c =
     let within : (c.loop-t.before ≤ c.end-end.result) × (c.end-end.result ≤ length c.args.codes.now) × (c.end-end.result ≤ length c.loop-t.on) = let a = c.args in
     end-within a.lengths.now a.codes.now a.tracks a.steps a.stage a.on.now c.requires
     c.loop-t-test.true c.loop-t.invariant c.end-end.ensures in
     within.0
 
 pub slice_bounds-train_tracks-end : goal.slice_bounds-train_tracks-end
-slice_bounds-train_tracks-end c = 
+slice_bounds-train_tracks-end c =
     let within : (c.loop-t.before ≤ c.end-end.result) × (c.end-end.result ≤ length c.args.codes.now) × (c.end-end.result ≤ length c.loop-t.on) = let a = c.args in
     end-within a.lengths.now a.codes.now a.tracks a.steps a.stage a.on.now c.requires
     c.loop-t-test.true c.loop-t.invariant c.end-end.ensures in
     within.1
 
 pub offset_bounds-on-before : goal.offset_bounds-on-before
-offset_bounds-on-before c = 
+offset_bounds-on-before c =
     let within : (c.loop-t.before ≤ c.end-end.result) × (c.end-end.result ≤ length c.args.codes.now) × (c.end-end.result ≤ length c.loop-t.on) = let a = c.args in
     end-within a.lengths.now a.codes.now a.tracks a.steps a.stage a.on.now c.requires
     c.loop-t-test.true c.loop-t.invariant c.end-end.ensures in
     omega (arith, within.0, within.1, c.requires.few)
 
 pub slice_bounds-train_tracks-count-in-loop-t : goal.slice_bounds-train_tracks-count-in-loop-t
-slice_bounds-train_tracks-count-in-loop-t c = 
+slice_bounds-train_tracks-count-in-loop-t c =
     let within : (c.loop-t.before ≤ c.end-end.result) × (c.end-end.result ≤ length c.args.codes.now) × (c.end-end.result ≤ length c.loop-t.on) = let a = c.args in
     end-within a.lengths.now a.codes.now a.tracks a.steps a.stage a.on.now c.requires
     c.loop-t-test.true c.loop-t.invariant c.end-end.ensures in
     within.0
 
 pub slice_bounds-train_tracks-start-in-loop-t : goal.slice_bounds-train_tracks-start-in-loop-t
-slice_bounds-train_tracks-start-in-loop-t c = 
+slice_bounds-train_tracks-start-in-loop-t c =
     let within : (c.loop-t.before ≤ c.end-end.result) × (c.end-end.result ≤ length c.args.codes.now) × (c.end-end.result ≤ length c.loop-t.on) = let a = c.args in
     end-within a.lengths.now a.codes.now a.tracks a.steps a.stage a.on.now c.requires
     c.loop-t-test.true c.loop-t.invariant c.end-end.ensures in
     within.0
 
 pub slice_bounds-train_tracks-end-in-loop-t-2 : goal.slice_bounds-train_tracks-end-in-loop-t-2
-slice_bounds-train_tracks-end-in-loop-t-2 c = 
+slice_bounds-train_tracks-end-in-loop-t-2 c =
     let within : (c.loop-t.before ≤ c.end-end.result) × (c.end-end.result ≤ length c.args.codes.now) × (c.end-end.result ≤ length c.loop-t.on) = let a = c.args in
     end-within a.lengths.now a.codes.now a.tracks a.steps a.stage a.on.now c.requires
     c.loop-t-test.true c.loop-t.invariant c.end-end.ensures in

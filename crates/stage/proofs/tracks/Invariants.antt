@@ -1,9 +1,5 @@
 -- The proof of `tracks`: the cars of the trains passed have their tracks, and the rest stays.
-use Prim.Native.Nat.{◌-◌, ◌≤◌}
-use native.Mathlib.Omega.{arith}
-use lib.ListN.{length}
-use borrow.Author.Rules.{rules}
-use Rattle.stage.proofs.ByTrain.{TracksTo, tracks-none, end-within, tracks-next, tracks-all}
+use Rattle.stage.proofs.ByTrain.{TracksTo}
 use Rattle.stage.proofs.tracks.Given as goal
 
 abbrev pub invariant-loop-t : goal.invariant-loop-t

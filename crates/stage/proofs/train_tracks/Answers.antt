@@ -1,12 +1,10 @@
 -- The proof of `train_tracks`: the cars passed have their tracks, and the rest stays.
 use mathlib.Core.Path.{◌≡◌, refl, ◌∙◌}
-use mathlib.Core.List.{[], map}
-use Prim.Native.Nat.{ℕ, ◌-◌, ◌≤◌}
+use mathlib.Core.List.{[]}
+use Prim.Native.Nat.{ℕ}
 use native.Mathlib.Omega.{arith}
-use lib.ListN.{length, get_or, take, length-set}
+use lib.ListN.{length, get_or, length-set}
 use lib.Seq.{take-length}
-use borrow.Author.Rules.{rules}
-use Rattle.scan.specs.Front.{Front}
 use Rattle.scan.proofs.Front.{front-none, front-through, front-end}
 use Rattle.stage.specs.Stages.{target_of}
 use Rattle.stage.proofs.train_tracks.Goals as goal

@@ -1,13 +1,9 @@
 -- The proof of `train_tracks`: the cars passed have their tracks, and the rest stays.
-use mathlib.Core.Path.{◌≡◌, refl, ◌∙◌}
-use mathlib.Core.List.{[], map}
-use Prim.Native.Nat.{ℕ, ◌-◌, ◌≤◌}
-use native.Mathlib.Omega.{arith}
-use lib.ListN.{length, get_or, take, length-set}
-use lib.Seq.{take-length}
-use borrow.Author.Rules.{rules}
+use mathlib.Core.Path.{◌≡◌}
+use mathlib.Core.List.{map}
+use Prim.Native.Nat.{ℕ, ◌≤◌}
+use lib.ListN.{length, get_or, take}
 use Rattle.scan.specs.Front.{Front}
-use Rattle.scan.proofs.Front.{front-none, front-through, front-end}
 use Rattle.stage.specs.Stages.{target_of}
 use Rattle.stage.proofs.train_tracks.Given as goal
 

@@ -1,12 +1,9 @@
 -- The proof of `places`: the cars passed have their place, and the rest stays.
-use mathlib.Core.Path.{refl, subst}
-use mathlib.Core.Logic.{inl, inr, ⊎_elim}
-use Prim.Native.Nat.{ℕ, ◌+◌, ◌-◌, ◌≤◌, ◌<◌}
-use native.Mathlib.Omega.{arith}
-use lib.ListN.{length, get_or, set}
+use Prim.Native.Nat.{◌≤◌, ◌<◌}
+use lib.ListN.{length}
 use Rattle.yard.specs.Words.{place}
 use Rattle.yard.specs.Demands.{Within}
-use Rattle.trains.proofs.Filling.{Filled, filled-all, filled_next, item-within, place_at, place-split, place-below}
+use Rattle.trains.proofs.Filling.{Filled}
 use Rattle.trains.proofs.places.Given as goal
 
 abbrev pub invariant-loop-i : goal.invariant-loop-i

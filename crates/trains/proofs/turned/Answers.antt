@@ -1,5 +1,4 @@
 -- The proof of `turned`: the item of car j + 1 stands at index j.
-use borrow.Author.Rules.{rules}
 use Rattle.yard.proofs.yards.Trains.{item_of-suc}
 use Rattle.trains.proofs.turned.Goals as goal
 

@@ -1,7 +1,5 @@
 -- The proof of `listed`: the places read lie within the list.
-use Prim.Native.Nat.{◌-◌, ◌≤◌}
 use native.Mathlib.Omega.{arith}
-use lib.ListN.{length}
 use Rattle.trials.proofs.listed.Goals as goal
 
 pub overflow_cast-items : goal.overflow_cast-items

@@ -1,6 +1,5 @@
 -- The proof of `listed`: the places read lie within the list.
-use Prim.Native.Nat.{◌-◌, ◌≤◌}
-use native.Mathlib.Omega.{arith}
+use Prim.Native.Nat.{◌≤◌}
 use lib.ListN.{length}
 use Rattle.trials.proofs.listed.Given as goal
 

@@ -1,8 +1,8 @@
 -- The proof of `turned`: the places written lie within the list.
-use mathlib.Core.Path.{◌≡◌, refl, ◌∙◌}
-use Prim.Native.Nat.{◌-◌, ◌≤◌}
+use mathlib.Core.Path.{refl, ◌∙◌}
+use Prim.Native.Nat.{◌-◌}
 use native.Mathlib.Omega.{arith}
-use lib.ListN.{length, length-set}
+use lib.ListN.{length-set}
 use Rattle.trials.proofs.turned.Goals as goal
 
 pub loop-i-init : goal.loop-i-init

@@ -1,8 +1,7 @@
 -- The proof of `turned`: the places written lie within the list.
-use mathlib.Core.Path.{◌≡◌, refl, ◌∙◌}
-use Prim.Native.Nat.{◌-◌, ◌≤◌}
-use native.Mathlib.Omega.{arith}
-use lib.ListN.{length, length-set}
+use mathlib.Core.Path.{◌≡◌}
+use Prim.Native.Nat.{◌≤◌}
+use lib.ListN.{length}
 use Rattle.trials.proofs.turned.Given as goal
 
 abbrev pub invariant-loop-i : goal.invariant-loop-i

@@ -1,9 +1,9 @@
 -- Laws of `first`: the first of the n numbers from a on that passes a test.
 use mathlib.Core.Path.{◌≡◌, refl, sym, ap, ap₂, ◌∙◌, subst}
-use mathlib.Core.Logic.{◌⊎◌, inl, inr, ⊎_elim}
+use mathlib.Core.Logic.{◌⊎◌, inl, ⊎_elim}
 use mathlib.Core.Bool.{Bool, true, false, cond}
 use Prim.Native.Nat.{ℕ, zero, suc, ◌+◌, ◌-◌, ◌≤◌, ◌<◌}
-use native.Mathlib.Nat.{le_refl, eq-or-lt_of_le, add-zero}
+use native.Mathlib.Nat.{le_refl, eq-or-lt_of_le}
 use native.Mathlib.Omega.{arith}
 use native.Mathlib.Numerals.{add-one}
 use Rattle.yard.proofs.general.Numbers.{le-or-lt}

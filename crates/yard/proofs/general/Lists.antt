@@ -1,8 +1,8 @@
 -- Laws of sums, counts and kept items over any list.
 use mathlib.Core.Path.{◌≡◌, refl, sym, ap, ap₂, ◌∙◌, subst}
 use mathlib.Core.Logic.{◌⊎◌, inl, inr, ⊎_elim}
-use mathlib.Core.Bool.{Bool, true, false, cond, not, ◌&&◌}
-use mathlib.Core.List.{List, [], ◌∷◌, ◌++◌, map, append-nil, append_assoc}
+use mathlib.Core.Bool.{Bool, true, false, cond, ◌&&◌}
+use mathlib.Core.List.{List, [], ◌∷◌, ◌++◌, map}
 use Prim.Native.Nat.{ℕ, zero, suc, ◌+◌, ◌*◌, ◌≤◌, ◌<◌}
 use native.Mathlib.Nat.{le_refl, eq-or-lt_of_le, zero-mul, one-mul, mul-one, add-mul}
 use native.Mathlib.Omega.{arith}
@@ -11,7 +11,7 @@ use lib.ListN.{length, get_or, take, drop}
 use lib.Seq.{get_or-take, get_or-drop}
 use borrow.Author.Tests.{eq-eqb, ne_eqb, eqb-true, eqb-false}
 use Rattle.yard.specs.Words.{tally, total, keep, count, up_from}
-use Rattle.yard.proofs.general.Bools.{split, clash}
+use Rattle.yard.proofs.general.Bools.{split}
 use Rattle.yard.proofs.general.Numbers.{le-or-lt}
 
 -- ---- sums

@@ -1,18 +1,18 @@
 -- Laws of places in a list, and of which of two numbers a list meets first.
 use mathlib.Core.Path.{◌≡◌, refl, sym, ap, ap₂, ◌∙◌, subst}
-use mathlib.Core.Logic.{◌⊎◌, inl, inr, ⊎_elim}
+use mathlib.Core.Logic.{⊎_elim}
 use mathlib.Core.Bool.{Bool, true, false, cond, not}
 use mathlib.Core.List.{List, [], ◌∷◌, ◌++◌}
 use Prim.Native.Nat.{ℕ, zero, suc, ◌+◌, ◌-◌, ◌≤◌, ◌<◌}
-use native.Mathlib.Nat.{suc_inj, eq-or-lt_of_le}
+use native.Mathlib.Nat.{eq-or-lt_of_le}
 use native.Mathlib.Omega.{arith}
 use lib.Dec.{ltb, eqb, leb-suc-suc}
 use lib.ListN.{length}
-use borrow.Author.Tests.{eq-eqb, ne_eqb, eqb-true, eqb-false, lt-ltb, le-ltb, ltb-true}
+use borrow.Author.Tests.{eq-eqb, ne_eqb, eqb-true, lt-ltb, le-ltb, ltb-true}
 use Rattle.yard.specs.Words.{tally, count, keep, place, up_from}
-use Rattle.yard.proofs.general.Bools.{split, clash}
+use Rattle.yard.proofs.general.Bools.{clash}
 use Rattle.yard.proofs.general.Numbers.{le-or-lt}
-use Rattle.yard.proofs.general.Lists.{count_head, count-up_from-in, count-up_from-out, up_from-bounds}
+use Rattle.yard.proofs.general.Lists.{count_head, count-up_from-in, up_from-bounds}
 
 -- the list meets a before b
 abbrev pub before : ℕ → ℕ → List ℕ → Bool

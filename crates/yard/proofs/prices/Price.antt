@@ -2,11 +2,10 @@
 use Prim.Native.Nat.{ℕ, ◌+◌, ◌*◌, ◌/◌, ◌%◌, ◌^◌, ◌≤◌, ◌<◌}
 use native.Mathlib.Nat.{lt_of_le_of_lt, lt_of_lt_of_le, le_of_lt, mul_assoc, mul-one, mul-le-mul_left, mul-div_cancel, mul-mod_left, div-add-mod', add-zero}
 use native.Mathlib.Omega.{arith}
-use mathlib.Core.Path.{◌≡◌, refl, sym, ap, ◌∙◌, subst, subst⁻¹}
+use mathlib.Core.Path.{◌≡◌, refl, sym, ap, ◌∙◌}
 use mathlib.Core.Logic.{◌↔◌, inl, inr}
-use mathlib.Core.List.{[], ◌∷◌}
-use mathlib.Core.Bool.{Bool, true, false, cond, ◌&&◌, true≢false, false≢true}
-use lib.Dec.{T, leb, ltb, eqb, lit<, lit≤, leb-zero}
+use mathlib.Core.Bool.{Bool, true, false, cond, true≢false, false≢true}
+use lib.Dec.{T, leb, ltb, eqb, lit<, lit≤}
 use lib.IntN.{pos, negsuc}
 use lib.Pow.{shl_lt}
 use lib.Ieee.{Float, nan, inf, fin, binary64, up, down, mul, lt, eq, le, fits, of_int}
@@ -14,7 +13,7 @@ use lib.Ieee.Fits.{round-fits, down_pos}
 use lib.Ieee.Exact.{HasValue, round_exact}
 use lib.Ieee.Back.{round_whole}
 use lib.Ieee.Scale.{round_same}
-use borrow.Author.Tests.{leb-true, eqb-true, le-leb, lt-leb, eq-eqb, ne_eqb}
+use borrow.Author.Tests.{leb-true, eqb-true, le-leb, eq-eqb, ne_eqb}
 use Rattle.yard.specs.declared.Timings.{Timings}
 use Rattle.yard.specs.declared.PriceAnswer.{PriceAnswer}
 use Rattle.yard.specs.declared.Limits.{Limits}

@@ -1,22 +1,22 @@
 -- Where no car is pulled early, the trains end in order exactly if the rule on neighbouring pairs holds.
 use mathlib.Core.Path.{◌≡◌, refl, sym, ap, ap₂, ◌∙◌, subst, fun_ext}
 use mathlib.Core.Logic.{◌⊎◌, inl, inr, ⊎_elim, ◌↔◌}
-use mathlib.Core.Bool.{Bool, true, false, cond, not, ◌&&◌}
+use mathlib.Core.Bool.{Bool, true, false, cond, not}
 use mathlib.Core.List.{List, [], ◌∷◌, head-eq_of_cons-eq, tail-eq_of_cons-eq, cons≢nil, nil≢cons}
-use Prim.Native.Nat.{ℕ, zero, suc, ◌+◌, ◌-◌, ◌%◌, ◌^◌, ◌≤◌, ◌<◌}
+use Prim.Native.Nat.{ℕ, zero, suc, ◌+◌, ◌-◌, ◌^◌, ◌≤◌, ◌<◌}
 use native.Mathlib.Nat.{le_refl, eq-or-lt_of_le, suc_inj}
 use native.Mathlib.Omega.{arith}
-use lib.Dec.{leb, ltb, eqb}
-use lib.ListN.{length, get_or, take}
-use borrow.Author.Tests.{leb-true, leb-false, le-leb, lt-leb, eqb-true, eqb-false, eq-eqb, ne_eqb}
-use Rattle.yard.specs.Words.{tally, count, keep, every, same, first, up_from}
-use Rattle.yard.specs.Night.{Night, Plan, cars, sum, item_of, train_of, first_car, cars_of, pair, broken}
-use Rattle.yard.specs.Replay.{bit, target, code_of, destination, yard_at, built, in_order}
+use lib.Dec.{leb, eqb}
+use lib.ListN.{length}
+use borrow.Author.Tests.{leb-true, le-leb, eqb-true, eq-eqb}
+use Rattle.yard.specs.Words.{count, keep, every, same, first, up_from}
+use Rattle.yard.specs.Night.{Plan, item_of, train_of, first_car, cars_of, pair, broken}
+use Rattle.yard.specs.Replay.{code_of, destination, yard_at, built, in_order}
 use Rattle.yard.specs.Answers.{ruled, unruled, order_test}
 use Rattle.yard.specs.Demands.{Within, Listed, CodesFormed, NeverEarly, BuildsTrains}
-use Rattle.yard.proofs.general.Bools.{split, clash, same_test, and_left, and_right, and_both, not_so, not-true, not-false}
+use Rattle.yard.proofs.general.Bools.{split, clash, same_test, and_left, and_right, and_both, not_so, not-true}
 use Rattle.yard.proofs.general.Numbers.{le-or-lt}
-use Rattle.yard.proofs.general.First.{first-le, first-none, first-fails, first-hit, first-from}
+use Rattle.yard.proofs.general.First.{first-none, first-fails}
 use Rattle.yard.proofs.general.Lists.{count-keep, count-up_from-in, count-up_from-out, up_from-bounds}
 use Rattle.yard.proofs.general.Order.{before, before-keep, before-turned, up_from-before, up_from-when_in_order, Holds}
 use Rattle.yard.proofs.yards.Codes.{low-all}

@@ -1,15 +1,13 @@
 -- Laws of a code's bits: the low s bits, and how many of them are set.
-use mathlib.Core.Path.{◌≡◌, refl, sym, ap, ◌∙◌, subst}
-use mathlib.Core.Logic.{◌⊎◌, inl, inr, ⊎_elim}
+use mathlib.Core.Path.{◌≡◌, refl, sym, ap, ◌∙◌}
 use mathlib.Core.Bool.{Bool, true, false}
-use Prim.Native.Nat.{ℕ, zero, suc, ◌+◌, ◌*◌, ◌/◌, ◌%◌, ◌^◌, ◌≤◌, ◌<◌}
-use native.Mathlib.Nat.{mod-lt, mod-eq_of_lt, mod-one, pow-succ', eq-or-lt_of_le, div-eq_of_lt, zero-mod, add-zero, zero-add, add-suc, suc-add}
+use Prim.Native.Nat.{ℕ, zero, suc, ◌+◌, ◌*◌, ◌/◌, ◌%◌, ◌^◌, ◌<◌}
+use native.Mathlib.Nat.{mod-lt, mod-eq_of_lt, mod-one, pow-succ', div-eq_of_lt, add-zero, zero-add, add-suc, suc-add}
 use native.Mathlib.Omega.{arith}
 use lib.Dec.{eqb, lit<}
-use lib.Count.{ones, ones_in, ones_cat}
+use lib.Count.{ones, ones_cat}
 use lib.Arith.{mod-mul}
-use lib.Pow.{pow_pos, pow_mono}
-use borrow.Author.Tests.{eq-eqb, ne_eqb}
+use lib.Pow.{pow_pos}
 use Rattle.yard.specs.Words.{tally, total, up_from}
 use Rattle.yard.specs.Replay.{bit}
 

@@ -1,7 +1,7 @@
 -- F(h) is how many codes below 2^h are usable on W tracks, for every W and h: counted from the top bit, as in a(h) = F(h) - F(h - W).
 use mathlib.Core.Path.{◌≡◌, refl, sym, ap, ap₂, ◌∙◌, subst}
 use mathlib.Core.Logic.{◌⊎◌, inl, inr, ⊎_elim, ◌↔◌}
-use mathlib.Core.Bool.{Bool, true, false, cond, not}
+use mathlib.Core.Bool.{Bool, true, false, cond}
 use mathlib.Core.List.{List}
 use Prim.Native.Nat.{ℕ, zero, suc, ◌+◌, ◌-◌, ◌*◌, ◌/◌, ◌%◌, ◌^◌, ◌≤◌, ◌<◌}
 use native.Mathlib.Nat.{le_of_suc-le-suc, sub-le, lt_of_lt_of_le, le-add_right, mod-lt, le_refl, add-zero, zero-add, add-suc, suc-add}
@@ -15,7 +15,7 @@ use lib.Seq.{take-nil}
 use Rattle.yard.specs.Words.{tally, total, count, keep, first, up_from}
 use Rattle.yard.specs.Night.{sum}
 use Rattle.yard.specs.Replay.{bit}
-use Rattle.yard.specs.Codes.{descending, a, F}
+use Rattle.yard.specs.Codes.{descending, F}
 use Rattle.yard.proofs.general.Bools.{clash, same_test, not_so}
 use Rattle.yard.proofs.general.Numbers.{le-or-lt, below_suc}
 use Rattle.yard.proofs.general.First.{first-from, first-le, first-none, first-hit}

@@ -3,17 +3,17 @@ use mathlib.Core.Path.{◌≡◌, refl, sym, ap, ◌∙◌, subst}
 use mathlib.Core.Logic.{◌⊎◌, inl, inr, ⊎_elim, ◌↔◌}
 use mathlib.Core.Bool.{Bool, true, false, cond}
 use mathlib.Core.List.{List}
-use Prim.Native.Nat.{ℕ, zero, suc, ◌+◌, ◌-◌, ◌*◌, ◌/◌, ◌%◌, ◌≤◌, ◌<◌}
+use Prim.Native.Nat.{ℕ, zero, suc, ◌+◌, ◌-◌, ◌/◌, ◌%◌, ◌≤◌, ◌<◌}
 use native.Mathlib.Nat.{le_refl, mod-lt, eq-or-lt_of_le, le_step, lt_trans, add-mod_right, div-add-mod', lt_of_mul-lt-mul_right, mul-le-mul_right}
 use native.Mathlib.Omega.{arith}
-use lib.Dec.{ltb, eqb}
+use lib.Dec.{eqb}
 use borrow.Author.Tests.{eq-eqb, eqb-true, lt-ltb, le-ltb}
-use Rattle.yard.specs.Words.{count, keep, first}
-use Rattle.yard.specs.Replay.{bit, next_step, target, stage}
-use Rattle.yard.proofs.general.Bools.{split, clash, not_so}
+use Rattle.yard.specs.Words.{count}
+use Rattle.yard.specs.Replay.{bit, next_step, target}
+use Rattle.yard.proofs.general.Bools.{split, clash}
 use Rattle.yard.proofs.general.Numbers.{le-or-lt, below_suc, below_more}
 use Rattle.yard.proofs.general.First.{first-none, first-hit, first_found}
-use Rattle.yard.proofs.general.Lists.{count-keep, count_kept}
+use Rattle.yard.proofs.general.Lists.{count-keep}
 use Rattle.yard.proofs.yards.Replay.{next_step-from, sorted, sorted-count, taken, Clean, standing-sorted}
 
 -- a car with this code does not wait at step s on the track of that step without its code naming it; and at no step

@@ -1,25 +1,24 @@
 -- The first early pull, found from the codes alone: the first step at which some car waits on that step's track though its code
 -- does not name it, and the lowest such car.
-use mathlib.Core.Path.{◌≡◌, refl, sym, ap, ap₂, ◌∙◌, subst}
-use mathlib.Core.Logic.{◌⊎◌, inl, inr, ⊎_elim, ◌↔◌}
+use mathlib.Core.Path.{◌≡◌, sym, ap, ap₂, ◌∙◌}
+use mathlib.Core.Logic.{⊎_elim, ◌↔◌}
 use mathlib.Core.Bool.{Bool, true, false, cond, not, ◌&&◌}
 use mathlib.Core.List.{List}
-use Prim.Native.Nat.{ℕ, suc, ◌+◌, ◌%◌, ◌≤◌, ◌<◌}
+use Prim.Native.Nat.{ℕ, ◌%◌, ◌≤◌, ◌<◌}
 use native.Mathlib.Nat.{le_refl, mod-lt, eq-or-lt_of_le}
 use native.Mathlib.Omega.{arith}
 use lib.Dec.{leb, ltb, eqb}
 use lib.ListN.{length}
-use borrow.Author.Tests.{lt-ltb, le-ltb, ltb-true, leb-true, leb-false, le-leb, lt-leb, eqb-true, eq-eqb}
-use Rattle.yard.specs.declared.Answer.{Answer}
+use borrow.Author.Tests.{lt-ltb, le-ltb, ltb-true, leb-false, eqb-true, eq-eqb}
 use Rattle.yard.specs.Words.{count, listed, first}
-use Rattle.yard.specs.Night.{Night, Plan, item_of}
+use Rattle.yard.specs.Night.{Plan, item_of}
 use Rattle.yard.specs.Replay.{bit, next_step, target, code_of, destination, yard_at, pulled, early, lowest_early, first_early}
 use Rattle.yard.specs.Answers.{says, test, early_test}
 use Rattle.yard.specs.Waiting.{waits, lowest_waiting, some_waits, first_waiting}
 use Rattle.yard.specs.Demands.{Within, Listed}
-use Rattle.yard.proofs.general.Bools.{split, clash, same_test, and_left, and_right, and_both, not-true}
+use Rattle.yard.proofs.general.Bools.{clash, same_test, and_left, and_right, and_both, not-true}
 use Rattle.yard.proofs.general.Numbers.{le-or-lt}
-use Rattle.yard.proofs.general.First.{first-from, first-le, first-none, first-hit, first_found, first-fails, first-same}
+use Rattle.yard.proofs.general.First.{first-le, first-none, first-hit, first_found, first-fails, first-same}
 use Rattle.yard.proofs.yards.Replay.{Clean}
 use Rattle.yard.proofs.yards.Early.{KeptAt, among-taken, clean-to}
 use Rattle.yard.proofs.yards.Plans.{destination-away}

@@ -2,17 +2,17 @@
 use mathlib.Core.Path.{◌≡◌, refl, sym, ap, ◌∙◌, subst}
 use mathlib.Core.Logic.{◌⊎◌, inl, inr, ⊎_elim, ◌↔◌}
 use mathlib.Core.Bool.{Bool, true, false, cond, not, ◌&&◌, ◌||◌}
-use mathlib.Core.List.{List, [], ◌∷◌, ◌++◌}
+use mathlib.Core.List.{List, [], ◌∷◌}
 use Prim.Native.Nat.{ℕ, zero, suc, ◌+◌, ◌-◌, ◌≤◌, ◌<◌}
 use native.Mathlib.Nat.{le_refl, pos_of_ne-zero}
 use native.Mathlib.Omega.{arith}
-use lib.Dec.{leb, ltb, eqb}
-use lib.ListN.{length, get_or, take, drop, take-append-drop, length-append}
+use lib.Dec.{leb, eqb}
+use lib.ListN.{length, get_or, take, drop, take-append-drop}
 use lib.Seq.{take-suc, take-length, drop-cons}
 use borrow.Author.Tests.{le-leb, leb-true, ltb-false, le-ltb, eqb-true, eq-eqb, ne_eqb, eqb-false}
-use Rattle.yard.specs.Words.{tally, count, listed, place, up_from}
+use Rattle.yard.specs.Words.{tally, count, listed, place}
 use Rattle.yard.specs.Night.{Night, cars, item_of}
-use Rattle.yard.specs.Answers.{train_test, empty_train, sum_test, bad_place, first_bad, first_listing, inbound_test}
+use Rattle.yard.specs.Answers.{train_test, empty_train, bad_place, first_bad, first_listing, inbound_test}
 use Rattle.yard.specs.Calls.{night_tests}
 use Rattle.yard.specs.Demands.{Within, Listed}
 use Rattle.yard.proofs.general.Bools.{split, clash, and_left, and_right, and_both, not-false}

@@ -1,25 +1,25 @@
 -- The laws of the replay, said of a plan: early pulls, usable codes, room, and one place for each car.
-use mathlib.Core.Path.{◌≡◌, refl, sym, ap, ◌∙◌, subst}
-use mathlib.Core.Logic.{◌⊎◌, inl, inr, ⊎_elim, ◌↔◌}
-use mathlib.Core.Bool.{Bool, true, false, cond, not, ◌&&◌}
+use mathlib.Core.Path.{◌≡◌, refl, sym, ap, subst}
+use mathlib.Core.Logic.{⊎_elim, ◌↔◌}
+use mathlib.Core.Bool.{Bool, true, false, cond, not}
 use mathlib.Core.List.{List, [], ◌∷◌}
-use Prim.Native.Nat.{ℕ, zero, suc, ◌+◌, ◌-◌, ◌%◌, ◌^◌, ◌≤◌, ◌<◌}
+use Prim.Native.Nat.{ℕ, suc, ◌+◌, ◌-◌, ◌%◌, ◌≤◌, ◌<◌}
 use native.Mathlib.Nat.{le_refl}
 use native.Mathlib.Omega.{arith}
 use lib.Dec.{leb, ltb, eqb}
 use lib.ListN.{length}
 use borrow.Author.Tests.{leb-true, leb-false, le-leb, lt-leb, ltb-true, ltb-false, lt-ltb, le-ltb, eqb-true, eq-eqb}
-use Rattle.yard.specs.Words.{tally, total, count, listed, first}
-use Rattle.yard.specs.Night.{Night, Plan, cars, train_of}
+use Rattle.yard.specs.Words.{tally, count, listed, first}
+use Rattle.yard.specs.Night.{Night, Plan, train_of}
 use Rattle.yard.specs.Replay.{bit, code_of, destination, yard_at, pulled, pull_size, early, lowest_early, first_early, first_overfull}
 use Rattle.yard.specs.Codes.{lone, usable}
 use Rattle.yard.specs.Answers.{says, test, early_test, room_test}
 use Rattle.yard.specs.Demands.{Within, EachOnce, NeverEarly, HasRoom}
-use Rattle.yard.proofs.general.Bools.{split, clash, same_test, and_left, and_right, and_both, not-true, not_so}
-use Rattle.yard.proofs.general.First.{first-le, first-none, first-fails, first-hit}
-use Rattle.yard.proofs.general.Lists.{count-up_from-in, up_from-bounds}
+use Rattle.yard.proofs.general.Bools.{split, clash, and_left, and_right, and_both, not-true, not_so}
+use Rattle.yard.proofs.general.First.{first-le, first-none, first-fails}
+use Rattle.yard.proofs.general.Lists.{up_from-bounds}
 use Rattle.yard.proofs.yards.Replay.{Clean}
-use Rattle.yard.proofs.yards.Early.{Kept, Gaps, clean-of-kept, kept-of-clean, gaps-of-kept, kept-of-gaps}
+use Rattle.yard.proofs.yards.Early.{Gaps, clean-of-kept, kept-of-clean, gaps-of-kept, kept-of-gaps}
 use Rattle.yard.proofs.yards.Standing.{standing-where}
 use Rattle.yard.proofs.calls.Tests.{asks}
 

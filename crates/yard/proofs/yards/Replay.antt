@@ -1,20 +1,18 @@
 -- Laws of the replay: where no car is pulled early, the yard at stage s is the inbound list sorted stably by the codes' low s
 -- bits, each car on the track it is bound for.
 use mathlib.Core.Path.{◌≡◌, refl, sym, ap, ap₂, ◌∙◌, subst}
-use mathlib.Core.Logic.{◌⊎◌, inl, inr, ⊎_elim}
 use mathlib.Core.Bool.{Bool, true, false, cond, not, ◌&&◌}
 use mathlib.Core.List.{List, [], ◌∷◌, ◌++◌, append-nil, append_assoc}
-use Prim.Native.Nat.{ℕ, zero, suc, ◌+◌, ◌-◌, ◌*◌, ◌%◌, ◌≤◌, ◌<◌}
-use native.Mathlib.Nat.{le_refl}
+use Prim.Native.Nat.{ℕ, zero, suc, ◌+◌, ◌-◌, ◌%◌, ◌≤◌, ◌<◌}
 use native.Mathlib.Omega.{arith}
 use lib.Dec.{ltb, eqb}
 use lib.ListN.{length}
-use borrow.Author.Tests.{eq-eqb, ne_eqb, eqb-true, eqb-false, lt-ltb, le-ltb, ltb-true, ltb-false}
-use Rattle.yard.specs.Words.{tally, total, count, keep, first, up_from}
-use Rattle.yard.specs.Replay.{Yard, bit, next_step, target, roll_car, roll_in, emptied, step, stage}
-use Rattle.yard.proofs.general.Bools.{split, clash, same_test, not_so}
+use borrow.Author.Tests.{eq-eqb, ne_eqb, eqb-true, eqb-false, lt-ltb, le-ltb}
+use Rattle.yard.specs.Words.{tally, total, count, keep}
+use Rattle.yard.specs.Replay.{Yard, bit, next_step, target, roll_car, roll_in, emptied, stage}
+use Rattle.yard.proofs.general.Bools.{same_test}
 use Rattle.yard.proofs.general.First.{first-from, first-le, first_next}
-use Rattle.yard.proofs.general.Lists.{total-append, total-length, total-keep, total-add, total-none, total-same, count-append, count-keep, count_kept}
+use Rattle.yard.proofs.general.Lists.{total-append, total-keep, total-add, total-same, count-keep}
 use Rattle.yard.proofs.general.Lists.{keep_append, keep_same, keep-keep, keep-none}
 
 -- ---- the next step of a code

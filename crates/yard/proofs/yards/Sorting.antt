@@ -1,21 +1,19 @@
 -- Sorting stably by the low bits, one bit at a time, orders the cars by the number that those bits make, and by the inbound order where the numbers are equal.
-use mathlib.Core.Path.{◌≡◌, refl, sym, ap, ap₂, ◌∙◌, subst}
-use mathlib.Core.Logic.{◌⊎◌, inl, inr, ⊎_elim}
+use mathlib.Core.Path.{◌≡◌, refl, sym, ap, ◌∙◌}
 use mathlib.Core.Bool.{Bool, true, false, cond, not}
 use mathlib.Core.List.{List, ◌++◌}
-use Prim.Native.Nat.{ℕ, zero, suc, ◌+◌, ◌*◌, ◌%◌, ◌^◌, ◌≤◌, ◌<◌}
+use Prim.Native.Nat.{ℕ, zero, suc, ◌+◌, ◌*◌, ◌%◌, ◌^◌, ◌<◌}
 use native.Mathlib.Nat.{mod-lt, le_of_lt}
 use native.Mathlib.Omega.{arith}
 use lib.Dec.{ltb, leb, eqb}
 use lib.Pow.{pow_pos}
-use borrow.Author.Tests.{eq-eqb, ne_eqb, lt-ltb, le-ltb, ltb-true, le-leb, lt-leb, eqb-true, eqb-false}
+use borrow.Author.Tests.{eq-eqb, ne_eqb, lt-ltb, le-ltb, ltb-true, le-leb, lt-leb}
 use Rattle.yard.specs.Words.{tally, count, keep, place}
 use Rattle.yard.specs.Replay.{bit}
 use Rattle.yard.specs.Answers.{ruled}
-use Rattle.yard.proofs.general.Bools.{split}
-use Rattle.yard.proofs.general.Numbers.{le-or-lt, compared}
+use Rattle.yard.proofs.general.Numbers.{compared}
 use Rattle.yard.proofs.general.Lists.{count-keep}
-use Rattle.yard.proofs.general.Order.{before, before-left, before-right, before-across, before-keep, before-turned}
+use Rattle.yard.proofs.general.Order.{before, before-left, before-right, before-across, before-keep}
 use Rattle.yard.proofs.yards.Codes.{low-suc, low-zero}
 use Rattle.yard.proofs.yards.Replay.{sorted, sorted-count}
 

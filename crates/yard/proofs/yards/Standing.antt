@@ -1,15 +1,13 @@
 -- At every stage each car stands on exactly one track, at one place, whether or not a car was pulled early.
 use mathlib.Core.Path.{◌≡◌, refl, sym, ap, ap₂, ◌∙◌, subst}
-use mathlib.Core.Logic.{◌⊎◌, inl, inr, ⊎_elim}
 use mathlib.Core.Bool.{Bool, true, false, cond}
-use mathlib.Core.List.{List, [], ◌++◌}
-use Prim.Native.Nat.{ℕ, zero, suc, ◌+◌, ◌%◌, ◌≤◌, ◌<◌}
+use mathlib.Core.List.{List, []}
+use Prim.Native.Nat.{ℕ, zero, suc, ◌+◌, ◌%◌, ◌<◌}
 use native.Mathlib.Omega.{arith}
 use lib.Dec.{eqb}
 use borrow.Author.Tests.{eq-eqb, ne_eqb, eqb-true, eqb-false}
 use Rattle.yard.specs.Words.{count, keep}
 use Rattle.yard.specs.Replay.{target, stage}
-use Rattle.yard.proofs.general.Bools.{split, clash}
 use Rattle.yard.proofs.general.Lists.{count-append, count-keep}
 use Rattle.yard.proofs.yards.Replay.{roll_in-standing, taken, standing-next}
 

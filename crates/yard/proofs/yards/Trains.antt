@@ -1,16 +1,15 @@
 -- Laws of trains and breaks: which cars a train has, and how the breaks before a car grow along its train.
-use mathlib.Core.Path.{◌≡◌, refl, sym, ap, ◌∙◌, subst}
-use mathlib.Core.Logic.{◌⊎◌, inl, inr, ⊎_elim}
+use mathlib.Core.Path.{◌≡◌, refl, sym, ap, ◌∙◌}
+use mathlib.Core.Logic.{⊎_elim}
 use mathlib.Core.Bool.{Bool, true, false, cond}
 use mathlib.Core.List.{List, [], ◌∷◌}
 use Prim.Native.Nat.{ℕ, zero, suc, ◌+◌, ◌-◌, max, ◌≤◌, ◌<◌}
-use native.Mathlib.Nat.{eq-or-lt_of_le, le-max_left, le-max_right, add-sub_cancel, add-sub_cancel_left}
 use native.Mathlib.Omega.{arith}
-use lib.Dec.{leb, eqb}
+use lib.Dec.{eqb}
 use lib.ListN.{length, get_or, take}
 use borrow.Author.Tests.{le-leb, lt-leb, eqb-true}
-use Rattle.yard.specs.Words.{tally, total, most, count, keep, up_from}
-use Rattle.yard.specs.Night.{sum, item_of, train_of, first_car, cars_of, broken, breaks, breaks_before}
+use Rattle.yard.specs.Words.{tally, most, count}
+use Rattle.yard.specs.Night.{sum, item_of, train_of, first_car, broken, breaks, breaks_before}
 use Rattle.yard.proofs.general.Numbers.{le-or-lt}
 use Rattle.yard.proofs.general.Lists.{count_head, count-tail}
 use Rattle.yard.proofs.yards.Codes.{total-last}

@@ -1,7 +1,6 @@
 -- The proof of `byte`: behind the end stands 0.
 use mathlib.Core.Path.{sym}
 use lib.ListN.{get_or-eq_default}
-use borrow.Author.Rules.{rules}
 use Rattle.bits.proofs.fields.byte.Goals as goal
 
 pub returns-else-i-bytes : goal.returns-else-i-bytes

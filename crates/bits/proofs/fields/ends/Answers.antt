@@ -3,7 +3,6 @@ use mathlib.Core.Path.{sym, ap, ◌∙◌}
 use Prim.Native.Nat.{◌-◌, ◌*◌}
 use native.Mathlib.Omega.{arith}
 use lib.Dec.{eqb}
-use borrow.Author.Rules.{rules}
 use Rattle.yard.specs.Bits.{whole_bytes}
 use Rattle.bits.specs.Fields.{field_at}
 use Rattle.bits.proofs.Places.{ends-here, ends-elsewhere}

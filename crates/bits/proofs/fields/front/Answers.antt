@@ -1,6 +1,5 @@
 -- The proof of `front`: 2 to the width is no 0.
 use lib.Pow.{pow_pos}
-use borrow.Author.Rules.{rules}
 use Rattle.bits.proofs.fields.front.Goals as goal
 
 pub nonzero_rem-result : goal.nonzero_rem-result

@@ -1,8 +1,6 @@
 -- The proof of `further`: an eye that holds enough stays, and else four bytes come behind its bits.
-use mathlib.Core.Path.{refl}
 use Prim.Native.Nat.{◌*◌}
 use native.Mathlib.Omega.{arith}
-use borrow.Author.Rules.{rules}
 use Rattle.bits.specs.Fields.{field_at}
 use Rattle.bits.proofs.Words.{joined-fits}
 use Rattle.bits.proofs.Places.{field_below}

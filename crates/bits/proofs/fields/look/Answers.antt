@@ -1,5 +1,4 @@
 -- The proof of `look`: the window from the place's byte on, less the bits before the place.
-use borrow.Author.Rules.{rules}
 use Rattle.bits.proofs.Seeing.{sees-look}
 use Rattle.bits.proofs.fields.look.Goals as goal
 

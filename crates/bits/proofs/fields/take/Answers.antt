@@ -1,6 +1,5 @@
 -- The proof of `take`: an eye that holds enough shows the number first, and the bits behind it stay.
 use mathlib.Core.Path.{ap, ◌∙◌}
-use borrow.Author.Rules.{rules}
 use Rattle.bits.specs.Fields.{field_at}
 use Rattle.bits.proofs.Seeing.{sees-front, sees-past}
 use Rattle.bits.proofs.fields.take.Goals as goal

@@ -1,6 +1,5 @@
 -- The proof of `window`: four bytes are one number of 32 bits, within the card and at its end.
 use native.Mathlib.Omega.{arith}
-use borrow.Author.Rules.{rules}
 use Rattle.bits.proofs.Places.{four_bytes}
 use Rattle.bits.proofs.fields.window.Goals as goal
 

@@ -1,10 +1,7 @@
 -- The proof of `close`: the whole bytes written so far are drawn bits, and fewer than eight bits stay pending.
-use mathlib.Core.Path.{◌≡◌, refl, ◌∙◌}
-use mathlib.Core.List.{[]}
+use mathlib.Core.Path.{refl, ◌∙◌}
 use native.Mathlib.Omega.{arith}
-use lib.ListN.{length}
 use borrow.Author.Rules.{rules}
-use Rattle.bits.specs.Pens.{Draws}
 use Rattle.bits.proofs.Drawing.{draws-none, draws-then, draws-few}
 use Rattle.bits.proofs.pens.close.Goals as goal
 

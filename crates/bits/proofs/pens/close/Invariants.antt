@@ -1,11 +1,8 @@
 -- The proof of `close`: the whole bytes written so far are drawn bits, and fewer than eight bits stay pending.
-use mathlib.Core.Path.{◌≡◌, refl, ◌∙◌}
+use mathlib.Core.Path.{◌≡◌}
 use mathlib.Core.List.{[]}
-use native.Mathlib.Omega.{arith}
 use lib.ListN.{length}
-use borrow.Author.Rules.{rules}
 use Rattle.bits.specs.Pens.{Draws}
-use Rattle.bits.proofs.Drawing.{draws-none, draws-then, draws-few}
 use Rattle.bits.proofs.pens.close.Given as goal
 
 abbrev pub invariant-loop-moved : goal.invariant-loop-moved

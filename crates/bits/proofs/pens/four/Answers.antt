@@ -2,7 +2,6 @@
 use native.Mathlib.Numerals.{add-one, add-two, add-three}
 use native.Mathlib.Omega.{arith}
 use lib.ListN.{length-set}
-use borrow.Author.Rules.{rules}
 use Rattle.bits.proofs.Drawing.{draws-bytes}
 use Rattle.bits.proofs.pens.four.Goals as goal
 

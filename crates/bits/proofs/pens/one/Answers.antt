@@ -1,7 +1,6 @@
 -- The proof of `one`: of eight pending bits or more the first eight are a byte.
 use native.Mathlib.Nat.{div-one}
 use native.Mathlib.Omega.{arith}
-use borrow.Author.Rules.{rules}
 use Rattle.bits.proofs.Drawing.{draws-bytes}
 use Rattle.bits.proofs.pens.one.Goals as goal
 

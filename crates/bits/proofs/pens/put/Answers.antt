@@ -4,7 +4,6 @@ use Prim.Native.Nat.{◌%◌, ◌^◌}
 use native.Mathlib.Nat.{mod-lt}
 use native.Mathlib.Omega.{arith}
 use lib.Pow.{pow_pos}
-use borrow.Author.Rules.{rules}
 use Rattle.bits.proofs.Words.{joined-fits}
 use Rattle.bits.proofs.Drawing.{draws-pending, draws-then, draws-few}
 use Rattle.bits.proofs.pens.put.Goals as goal

@@ -1,14 +1,11 @@
 -- The proof of `puts`: the numbers passed have been drawn.
 use mathlib.Core.Path.{◌≡◌, refl, ◌∙◌}
-use Prim.Native.Nat.{◌-◌, ◌≤◌, zero-le}
+use Prim.Native.Nat.{zero-le}
 use native.Mathlib.Nat.{suc-mul, mul-le-mul_right}
 use native.Mathlib.Numerals.{add-one}
 use native.Mathlib.Omega.{arith}
-use lib.ListN.{length, take, replicate}
+use lib.ListN.{length}
 use lib.Seq.{take-length}
-use borrow.Author.Rules.{rules}
-use Rattle.yard.specs.Bits.{packed}
-use Rattle.bits.specs.Pens.{Draws}
 use Rattle.bits.proofs.Drawing.{run-next, run_length, draws-none, draws-then}
 use Rattle.bits.proofs.pens.puts.Goals as goal
 
@@ -37,13 +34,12 @@ put-moved-requires c =
     )
 
 pub loop-i-preserved : goal.loop-i-preserved
-loop-i-preserved c =
-    (
-      omega arith,
-      c.put-moved.auto.card ∙ c.loop-i.invariant.1,
-      rw (add-one, run-next c.args.xs.now c.args.width c.loop-i.i c.loop-i-test.true)
-          (draws-then c.loop-i.invariant.2 c.put-moved.ensures),
-    )
+loop-i-preserved c = (
+  omega arith,
+  c.put-moved.auto.card ∙ c.loop-i.invariant.1,
+  rw (add-one, run-next c.args.xs.now c.args.width c.loop-i.i c.loop-i-test.true)
+      (draws-then c.loop-i.invariant.2 c.put-moved.ensures),
+)
 
 pub returns : goal.returns
 returns c =

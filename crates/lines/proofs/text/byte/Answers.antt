@@ -1,6 +1,5 @@
 -- The proof of `byte`: it stands behind the first ones where there is room, and else the buffer is full.
 use native.Mathlib.Omega.{arith}
-use borrow.Author.Rules.{rules}
 use Rattle.lines.proofs.Adding.{adds-byte, adds-full}
 use Rattle.lines.proofs.text.byte.Goals as goal
 

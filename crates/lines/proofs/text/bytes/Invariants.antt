@@ -1,9 +1,7 @@
 -- The proof of `bytes`: the bytes passed stand behind the first ones.
-use Prim.Native.Nat.{◌-◌, ◌≤◌}
-use native.Mathlib.Omega.{arith}
+use Prim.Native.Nat.{◌≤◌}
 use lib.ListN.{length, take}
 use Rattle.lines.specs.Text.{Adds}
-use Rattle.lines.proofs.Adding.{adds_none, adds-next, adds-all}
 use Rattle.lines.proofs.text.bytes.Given as goal
 
 abbrev pub invariant-loop-i : goal.invariant-loop-i

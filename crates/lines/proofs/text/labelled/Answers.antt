@@ -1,5 +1,4 @@
 -- The proof of `labelled`: the number stands behind its label.
-use borrow.Author.Rules.{rules}
 use Rattle.lines.proofs.Adding.{adds_then}
 use Rattle.lines.proofs.text.labelled.Goals as goal
 

@@ -1,6 +1,5 @@
 -- The proof of `number`: the fewest digits are the numeral.
 use mathlib.Core.Path.{◌∙◌}
-use borrow.Author.Rules.{rules}
 use Rattle.lines.proofs.Adding.{adds_same}
 use Rattle.lines.proofs.Numerals.{digits-numeral}
 use Rattle.lines.proofs.text.number.Goals as goal

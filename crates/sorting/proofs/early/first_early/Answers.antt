@@ -1,10 +1,7 @@
 -- The proof of `first_early`: what is left of the search over steps, then cars, finds what the whole finds.
-use mathlib.Core.Path.{◌≡◌, refl, sym, ◌∙◌}
-use Prim.Native.Nat.{◌-◌, ◌≤◌}
+use mathlib.Core.Path.{refl, sym, ◌∙◌}
 use native.Mathlib.Omega.{arith}
-use lib.ListN.{length}
-use Rattle.sorting.specs.declared.early.Early.TheVariants.{Never}
-use Rattle.sorting.proofs.EarlyLeft.{StepsLeft, CarsLeft, steps-start, cars-start, cars-goes, steps-goes, steps-ends, found}
+use Rattle.sorting.proofs.EarlyLeft.{steps-start, cars-start, cars-goes, steps-goes, steps-ends, found}
 use Rattle.sorting.proofs.early.first_early.Goals as goal
 
 pub search-init : goal.search-init

@@ -1,10 +1,9 @@
 -- The proof of `first_early`: what is left of the search over steps, then cars, finds what the whole finds.
-use mathlib.Core.Path.{◌≡◌, refl, sym, ◌∙◌}
-use Prim.Native.Nat.{◌-◌, ◌≤◌}
-use native.Mathlib.Omega.{arith}
+use mathlib.Core.Path.{◌≡◌}
+use Prim.Native.Nat.{◌≤◌}
 use lib.ListN.{length}
 use Rattle.sorting.specs.declared.early.Early.TheVariants.{Never}
-use Rattle.sorting.proofs.EarlyLeft.{StepsLeft, CarsLeft, steps-start, cars-start, cars-goes, steps-goes, steps-ends, found}
+use Rattle.sorting.proofs.EarlyLeft.{StepsLeft, CarsLeft}
 use Rattle.sorting.proofs.early.first_early.Given as goal
 
 abbrev pub invariant-loop-i : goal.invariant-loop-i

@@ -3,7 +3,6 @@ use Prim.Native.Nat.{◌/◌, ◌^◌}
 use native.Mathlib.Omega.{arith}
 use lib.Count.{trailing_le}
 use Rattle.sorting.proofs.NextStep.{next-zeros}
-use borrow.Author.Rules.{rules}
 use Rattle.sorting.proofs.early.next_step.Goals as goal
 
 pub overflow_cast-next-2 : goal.overflow_cast-next-2

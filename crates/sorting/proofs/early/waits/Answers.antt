@@ -1,5 +1,4 @@
 -- The proof of `waits`: the next step is another, is to come, and uses the same track.
-use borrow.Author.Rules.{rules}
 use Rattle.sorting.proofs.NextStep.{waits-named, waits-last, waits-later}
 use Rattle.sorting.proofs.early.waits.Goals as goal
 
