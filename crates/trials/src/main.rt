@@ -61,8 +61,7 @@ fn trial(
 
 // Writes the numbers from n down to 1 to the front of a list.
 fn turned(into: &mut [u16], n: usize)
-    requires fact_1 { (n ≤ 512) }
-    requires fact_2 { n ≤ length into.old }
+    requires { (n ≤ 512) × (n ≤ length into.old) }
 {
     for i in 0..n {
         into[i] = (n - i) as u16;
@@ -71,7 +70,7 @@ fn turned(into: &mut [u16], n: usize)
 
 // The trial of n cars that come in reversed, one train, with the limit 8.
 fn reversed(name: &[u8], n: usize, tracks: usize, shown: usize)
-    requires { ((n ≤ 512)) × (shown ≤ 512) }
+    requires { (n ≤ 512) × (shown ≤ 512) }
 {
     let mut inbound = [0u16; 512];
     turned(&mut inbound, n);

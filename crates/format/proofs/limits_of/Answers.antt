@@ -5,8 +5,8 @@ use Rattle.format.proofs.limits_of.Goals as goal
 
 pub returns-then-edition-eq1 : goal.returns-then-edition-eq1
 unfolding limits_of
-returns-then-edition-eq1 c = rw (eq-eqb c.args.edition 1 c.if-edition-eq1.true) c.first_limits.ensures
+returns-then-edition-eq1 c = rw (eq-eqb c.args.edition 1 c.if-edition-eq1.true) (cc)
 
 pub returns-else-edition-eq1 : goal.returns-else-edition-eq1
 unfolding limits_of
-returns-else-edition-eq1 c = rw (ne_eqb c.args.edition 1 c.if-edition-eq1.false) c.limits.ensures
+returns-else-edition-eq1 c = rw (ne_eqb c.args.edition 1 c.if-edition-eq1.false) (cc)

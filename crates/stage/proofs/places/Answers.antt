@@ -1,6 +1,6 @@
 -- The proof of `places`: the array has a count for each track.
 use mathlib.Core.Path.{refl}
-use Prim.Native.Nat.{◌+◌}
+use Prim.Native.Nat.{◌+◌, ◌≤◌}
 use native.Mathlib.Omega.{arith}
 use Rattle.yard.specs.Limits.{first_limits}
 use Rattle.stage.specs.Stages.{all_tracks}
@@ -11,7 +11,8 @@ pub places_with-requires : goal.places_with-requires
 places_with-requires c =
     let a = c.args in
     let few = first_limits.tracks + first_limits.trains in
-    (more-tracks a.order.now a.on.now a.all few a.at.now c.if-all-le-FIRST_ALL_TRACKS.true (omega arith) c.requires, refl)
+    let within : a.all ≤ few = omega arith in
+    (more-tracks a.order.now a.on.now a.all few a.at.now within (omega arith) c.requires, refl)
 
 pub places_with-requires-2 : goal.places_with-requires-2
 places_with-requires-2 c =
