@@ -85,7 +85,7 @@ class Building(Scratch):
     def test_an_earlier_library(self):
         for lacks in ([], ["altairpeg_fewest_passes"]):
             self.other(*lacks, steps=8)
-            self.tells(r".*an archive\.a is of an Altairpeg before 3\.0\.0, whose calls take other arguments: run `rt .*` anew")
+            self.tells(r".*an archive\.a is of an Altairpeg before 3\.0\.0, whose calls take other arguments: run `tools/build .*` anew")
 
     def test_a_library_that_lacks_more(self):
         self.other("altairpeg_fewest_passes", "altairpeg_price")
