@@ -3,7 +3,8 @@
 
 Runs on the programs and the archive in target/, which `tools/build check nightcard nightplan` and `tools/build staticlib altairpeg` build. Each
 test works on a copy of the checkout in a folder with an awkward name. Where a test is about when the prover is run, a
-stand-in takes the prover's place: it notes each call and copies the built programs to where rt would build them.
+stand-in takes the place of tools/build: it notes each call and copies the built programs to where that would lay them. tools/build
+itself is tried with a stand-in for rt.
 """
 
 from __future__ import annotations
@@ -439,6 +440,73 @@ class Prover(Checkout):
         status, out, err = self.plan(self.card)
         self.assertEqual((status, out), (2, ""))
         self.assertEqual(err, "plan: the programs are to be built, and rt, the kit's command, is not on PATH\n")
+
+
+# Stands for rt in a crate's folder: fails in the one that RT_FAILS names, and else leaves what rt would.
+RT = r"""#!/bin/sh
+name=$(basename "$PWD")
+echo "$1 $name" >> "$RT_NOTES"
+echo "crate $name: modules loaded=1 checked=1"
+[ "$name" != "$RT_FAILS" ] || { echo 'logic=not-proved'; exit 1; }
+echo 'logic=proved functions=1'
+mkdir -p out
+case $1 in
+run) echo new > "out/$name" ;;
+lib) echo new > "out/lib$name.a" ;;
+esac
+"""
+
+
+class Build(unittest.TestCase):
+    """tools/build, with a stand-in for rt."""
+
+    def setUp(self) -> None:
+        scratch = tempfile.TemporaryDirectory(prefix="a yard ")
+        self.addCleanup(scratch.cleanup)
+        self.here = Path(scratch.name)
+        for name in ("altairpeg", "nightcard", "nightplan"):
+            (self.here / "crates" / name).mkdir(parents=True)
+        (self.here / "tools").mkdir()
+        shutil.copy2(ROOT / "tools" / "build", self.here / "tools" / "build")
+        rt = self.here / "rt"
+        rt.write_text(RT)
+        rt.chmod(0o755)
+        self.notes = self.here / "notes"
+        self.environment = {**os.environ, "RT": str(rt), "RT_NOTES": str(self.notes), "RT_FAILS": ""}
+
+    def build(self, *words: str) -> tuple[int, list[str]]:
+        """Runs tools/build from elsewhere: its exit status, and what it says."""
+        run = subprocess.run([self.here / "tools" / "build", *words], env=self.environment, cwd="/", stdout=subprocess.PIPE, stderr=subprocess.STDOUT)
+        return run.returncode, run.stdout.decode().splitlines()
+
+    def laid(self) -> dict[str, str]:
+        return {str(file.relative_to(self.here / "target")): file.read_text() for file in (self.here / "target").rglob("*") if file.is_file()}
+
+    def test_programs_and_library(self):
+        status, said = self.build("check", "nightcard", "nightplan")
+        self.assertEqual((status, [line for line in said if line.startswith("rt: ")]), (0, ["rt: nightcard proved (0 s)", "rt: nightplan proved (0 s)"]))
+        self.assertEqual(self.build("staticlib", "altairpeg")[0], 0)
+        self.assertEqual(self.notes.read_text().splitlines(), ["run nightcard", "run nightplan", "lib altairpeg"])
+        self.assertEqual(self.laid(), dict.fromkeys(["bin/nightcard", "bin/nightplan", "staticlib/libaltairpeg.a"], "new\n"))
+
+    def test_a_proof_that_fails(self):
+        """Nothing is laid in its place, and nothing behind it is begun, whichever it is."""
+        for fails, begun, laid in (("nightcard", ["run nightcard"], []), ("nightplan", ["run nightcard", "run nightplan"], ["bin/nightcard"])):
+            with self.subTest(fails=fails):
+                self.notes.write_text("")
+                shutil.rmtree(self.here / "target", ignore_errors=True)
+                self.environment["RT_FAILS"] = fails
+                status, said = self.build("check", "nightcard", "nightplan")
+                self.assertEqual((status, said[-1]), (1, "logic=not-proved"))
+                self.assertEqual(self.notes.read_text().splitlines(), begun)
+                self.assertEqual(sorted(self.laid()), laid)
+        self.environment["RT_FAILS"] = "altairpeg"
+        self.assertEqual(self.build("staticlib", "altairpeg")[0], 1)
+
+    def test_wrong_usage(self):
+        for words in ((), ("check",), ("bake", "nightcard"), ("check", "nobody")):
+            self.assertEqual(self.build(*words)[0], 2, words)
+        self.assertFalse(self.notes.exists())
 
 
 # Mounts a folder over itself, for reading only, where no one else sees it, and runs the words that follow.
