@@ -2,17 +2,19 @@
 use Prim.Native.Nat.{ℕ, zero, suc, ◌+◌, ◌-◌, ◌*◌, ◌/◌, ◌%◌, ◌^◌, ◌≤◌, ◌<◌}
 use mathlib.Core.Path.{◌≡◌, refl, sym, ap, ◌∙◌}
 use mathlib.Core.List.{List, [], ◌∷◌, ◌++◌, append_assoc, append-nil}
-use native.Mathlib.Nat.{zero-add, suc-add, add_comm, add-sub_of_le, mod-lt}
+use native.Mathlib.Nat.{zero-add, suc-add, add_comm, add-sub_of_le, mod-lt, div-one}
 use native.Mathlib.Numerals.{add-one}
 use native.Mathlib.Omega.{arith}
-use lib.ListN.{length, get_or, take, drop, replicate, length-append, length-replicate, take-append-drop, replicate-append-replicate}
+use lib.ListN.{length, get_or, take, drop, replicate, length-replicate, take-append-drop, replicate-append-replicate}
 use lib.Pow.{pow_pos, shr-shr, split, high}
-use lib.Seq.{length-take-le, take-suc, take_at, drop_at, drop-drop, sets, sets-eq}
+use lib.Seq.{length-take-le, take-suc, drop-drop}
+use Rattle.std.specs.Borrow.{MutBor}
+use Rattle.std.specs.Int.{bytes_high_first}
 use Rattle.yard.specs.Bits.{to_bits, packed, unpacked, whole_bytes, to_bytes, bits_of}
-use Rattle.yard.proofs.cards.Bits.{Below, fits-run, length-to_bits, to_bits-low, packed-append, unpacked-packed, unpacked-zeros, length-to_bytes}
+use Rattle.yard.proofs.cards.Bits.{Below, fits-run, to_bits-low, packed-append, unpacked-packed, unpacked-zeros, length-to_bytes}
 use Rattle.yard.proofs.cards.Bits.{length-packed, sum-replicate}
 use Rattle.bits.specs.declared.pens.Pen.{Pen}
-use Rattle.bits.specs.Pens.{fresh, drawn, Draws}
+use Rattle.bits.specs.Pens.{IsFresh, drawn_on, drawn, reach, Draws}
 use Rattle.bits.proofs.Words.{joined-low}
 
 -- A number of v + w bits is one of v bits before one of w.
@@ -58,28 +60,40 @@ bits_of-append : (xs ys : List ℕ) → bits_of (xs ++ ys) ≡ bits_of xs ++ bit
 bits_of-append [] ys = refl
 bits_of-append (x ∷ xs) ys = ap (λ l. to_bits 8 x ++ l) (bits_of-append xs ys) ∙ sym (append_assoc (to_bits 8 x) (bits_of xs) (bits_of ys))
 
--- A pen that does nothing, and one that takes the bits of a number.
-pub draws-none : {k : ℕ} (bytes : List ℕ) (p : Pen) → p.count ≤ k → Draws k [] bytes p bytes p
-draws-none bytes p few =
-    record { bits = sym (append-nil (drawn bytes p)); rest = refl; onward = omega arith; reached = omega arith; few = few }
+-- A pen that does nothing.
+pub draws-none : (p : Pen) → Draws [] p p
+draws-none p =
+    record { bits = sym (append-nil (drawn p)); rest = refl; onward = omega arith; size = refl; same_card = refl }
 
-pub draws-pending : (bytes : List ℕ) (p : Pen) (w x : ℕ)
-    → p.count + w ≤ 64
-    → Draws (p.count + w) (to_bits w x) bytes p bytes (record { at = p.at; count = p.count + w; pending = p.pending * 2 ^ w % 2 ^ 64 + x % 2 ^ w })
-unfolding drawn
-draws-pending bytes p w x room =
-    record {
-      bits =
-          ap (λ l. bits_of (take p.at bytes) ++ l) (to_bits-joined p.count w p.pending x room)
-          ∙ sym (append_assoc (bits_of (take p.at bytes)) (to_bits p.count p.pending) (to_bits w x));
-      rest = refl;
-      onward = omega arith;
-      reached = omega (arith, length-to_bits w x);
-      few = omega arith;
-    }
+-- The bits of a number join the pending ones.
+pub drawn-joined : (bytes : List ℕ) (at count pending w x : ℕ)
+    → count + w ≤ 64
+    → drawn_on bytes at (count + w) (pending * 2 ^ w % 2 ^ 64 + x % 2 ^ w) ≡ drawn_on bytes at count pending ++ to_bits w x
+drawn-joined bytes at count pending w x room =
+    ap (λ l. bits_of (take at bytes) ++ l) (to_bits-joined count w pending x room)
+    ∙ sym (append_assoc (bits_of (take at bytes)) (to_bits count pending) (to_bits w x))
 
--- the n bytes of a number, the highest first, and their bits
-abbrev pub bytes_of : ℕ → ℕ → List ℕ
+-- The first n bytes of the pending bits are written.
+pub drawn-written : (bytes after new : List ℕ) (at count pending n : ℕ)
+    → n * 8 ≤ count
+    → take (at + n) after ≡ take at bytes ++ new
+    → bits_of new ≡ to_bits (n * 8) (pending / 2 ^ (count - n * 8))
+    → drawn_on after (at + n) (count - n * 8) pending ≡ drawn_on bytes at count pending
+drawn-written bytes after new at count pending n full front held =
+    let left = count - n * 8 in
+    let written = take at bytes in
+    let all : n * 8 + left ≡ count = omega arith in
+    ap (λ l. bits_of l ++ to_bits left pending) front
+    ∙ ap (λ l. l ++ to_bits left pending) (bits_of-append written new)
+    ∙ append_assoc (bits_of written) (bits_of new) (to_bits left pending)
+    ∙ ap (λ l. bits_of written ++ (l ++ to_bits left pending)) held
+    ∙ ap (λ l. bits_of written ++ l) (sym (to_bits-add (n * 8) left pending) ∙ ap (λ k. to_bits k pending) all)
+
+-- One byte and four bytes of a number have its bits.
+pub bits_of-one : (x : ℕ) → bits_of (x % 256 ∷ []) ≡ to_bits 8 x
+bits_of-one x = append-nil (to_bits 8 (x % 256)) ∙ to_bits-mod 8 x
+
+abbrev bytes_of : ℕ → ℕ → List ℕ
 bytes_of zero x = []
 bytes_of (suc n) x = x / 2 ^ (n * 8) % 256 ∷ bytes_of n x
 
@@ -96,68 +110,46 @@ bits_of-bytes_of (suc n) x =
     ∙ sym (to_bits-add 8 (n * 8) x)
     ∙ ap (λ k. to_bits k x) eight
 
--- A pen that writes the first n bytes of the pending bits.
-pub draws-bytes : (n : ℕ) (bytes : List ℕ) (p : Pen) → n * 8 ≤ p.count → p.at + n ≤ length bytes
-    → let left = p.count - n * 8 in
-    Draws left [] bytes p (sets bytes p.at (bytes_of n (p.pending / 2 ^ left))) (record { at = p.at + n; count = left; pending = p.pending })
-unfolding drawn
-draws-bytes n bytes p full room =
-    let left = p.count - n * 8 in
-    let x = p.pending in
-    let new = bytes_of n (x / 2 ^ left) in
-    let long : length new ≡ n = length-bytes_of n (x / 2 ^ left) in
-    let front = take p.at bytes in
-    let after : sets bytes p.at new ≡ front ++ new ++ drop (p.at + n) bytes =
-    sets-eq new bytes p.at (omega arith) ∙ ap (λ k. front ++ new ++ drop (p.at + k) bytes) long in
-    let seam : length (front ++ new) ≡ p.at + n = length-append front new ∙ omega (arith, length-take-le p.at bytes (omega arith)) in
-    let all : n * 8 + left ≡ p.count = omega arith in
-    record {
-      bits =
-          ap (λ l. bits_of l ++ to_bits left x) (ap (take (p.at + n)) after ∙ take_at (front ++ new) (drop (p.at + n) bytes) (p.at + n) seam)
-          ∙ ap (λ l. l ++ to_bits left x) (bits_of-append front new)
-          ∙ append_assoc (bits_of front) (bits_of new) (to_bits left x)
-          ∙ ap (λ l. bits_of front ++ (l ++ to_bits left x)) (bits_of-bytes_of n (x / 2 ^ left))
-          ∙ ap (λ l. bits_of front ++ l) (sym (to_bits-add (n * 8) left x) ∙ ap (λ k. to_bits k x) all)
-          ∙ sym (append-nil (bits_of front ++ to_bits p.count x));
-      rest = ap (drop (p.at + n)) after ∙ drop_at (front ++ new) (drop (p.at + n) bytes) (p.at + n) seam;
-      onward = omega arith;
-      reached = omega arith;
-      few = omega arith;
-    }
+pub bits_of-four : (x : ℕ) → bits_of (bytes_high_first 4 (x % 2 ^ 32)) ≡ to_bits 32 x
+bits_of-four x =
+    let word = x % 2 ^ 32 in
+    ap (λ k. bits_of (word / 16777216 % 256 ∷ word / 65536 % 256 ∷ word / 256 % 256 ∷ k % 256 ∷ [])) (sym (div-one word))
+    ∙ bits_of-bytes_of 4 word
+    ∙ to_bits-mod 32 x
 
 -- One drawing behind another is one drawing.
-pub draws-then : {j k : ℕ} {a b x : List ℕ} {p : Pen} {y : List ℕ} {q : Pen} {z : List ℕ} {r : Pen}
-    → Draws j a x p y q
-    → Draws k b y q z r
-    → Draws k (a ++ b) x p z r
-draws-then {a = a} {b = b} {x = x} {p = p} {y = y} {q = q} {z = z} {r = r} first second =
+pub draws-then : {a b : List ℕ} {p q r : Pen} → Draws a p q → Draws b q r → Draws (a ++ b) p r
+draws-then {a = a} {b = b} {p = p} {q = q} {r = r} first second =
     let further : q.at + (r.at - q.at) ≡ r.at = add-sub_of_le second.onward in
     let later : (l : List ℕ) → drop r.at l ≡ drop (r.at - q.at) (drop q.at l) =
     λ l. sym (drop-drop (r.at - q.at) q.at l ∙ ap (λ k. drop k l) further) in
     record {
-      bits = second.bits ∙ ap (λ l. l ++ b) first.bits ∙ append_assoc (drawn x p) a b;
-      rest = second.rest ∙ later y ∙ ap (drop (r.at - q.at)) first.rest ∙ sym (later x);
+      bits = second.bits ∙ ap (λ l. l ++ b) first.bits ∙ append_assoc (drawn p) a b;
+      rest = second.rest ∙ later q.card.now ∙ ap (drop (r.at - q.at)) first.rest ∙ sym (later p.card.now);
       onward = omega arith;
-      reached = omega (arith, length-append a b);
-      few = second.few;
+      size = second.size ∙ first.size;
+      same_card = second.same_card ∙ first.same_card;
     }
 
-pub draws-few : {k l : ℕ} {a x : List ℕ} {p : Pen} {y : List ℕ} {q : Pen} → Draws k a x p y q → q.count ≤ l → Draws l a x p y q
-draws-few d few =
-    record { bits = d.bits; rest = d.rest; onward = d.onward; reached = d.reached; few = few }
-
 -- Seven zero bits at last: the bytes written are those of the bits, and no other is touched.
-pub draws-whole : (bits before after : List ℕ) (q : Pen)
-    → Draws 7 (bits ++ to_bits 7 0) before fresh after q
+pub draws-whole : (bits : List ℕ) (card : MutBor (List ℕ)) (p q : Pen) {after : List ℕ}
+    → IsFresh card p
+    → Draws (bits ++ to_bits 7 0) p q
+    → reach q ≡ length bits + 7
+    → q.count < 8
+    → after ≡ q.card.now
     → Below 256 after
-    → length after ≡ length before
-    → length bits ≤ length before * 8
-    → after ≡ to_bytes bits ++ drop (length (to_bytes bits)) before
+    → length bits ≤ length card.now * 8
+    → after ≡ to_bytes bits ++ drop (length (to_bytes bits)) card.now
 unfolding drawn
-draws-whole bits before after q d small same room =
+draws-whole bits card p q {after} fresh d reached few held small room =
+    let before = card.now in
     let bytes = take q.at after in
-    let reached : q.at * 8 + q.count ≡ length bits + 7 = d.reached ∙ omega (arith, length-append bits (to_bits 7 0)) in
-    let count : q.at ≡ whole_bytes (length bits) = omega (arith, d.few) in
+    let same : p.card.now ≡ before = ap (λ (c : MutBor (List ℕ)). c.now) fresh.card_is in
+    let none : drawn_on p.card.now p.at p.count p.pending ≡ [] =
+    ap (λ k. drawn_on p.card.now k p.count p.pending) fresh.at ∙ ap (λ k. to_bits k p.pending) fresh.count in
+    let all : length after ≡ length before = ap length held ∙ (d.size ∙ ap length same) in
+    let count : q.at ≡ whole_bytes (length bits) = omega arith in
     let long : length bytes ≡ q.at = length-take-le q.at after (omega arith) in
     let fit = fits-run q.at 8 bytes long (below-take q.at after small) in
     let whole : unpacked (replicate q.at 8) (packed (replicate q.at 8) bytes ++ to_bits q.count q.pending) ≡ bytes =
@@ -165,12 +157,12 @@ draws-whole bits before after q d small same room =
     let read : bytes ≡ to_bytes bits =
     sym whole
     ∙ ap (λ k. unpacked (replicate q.at 8) (packed (replicate k 8) bytes ++ to_bits q.count q.pending)) (sym long)
-    ∙ ap (unpacked (replicate q.at 8)) d.bits
+    ∙ ap (unpacked (replicate q.at 8)) (ap (λ l. drawn_on l q.at q.count q.pending) held ∙ (d.bits ∙ ap (λ l. l ++ (bits ++ to_bits 7 0)) none))
     ∙ unpacked-zeros (replicate q.at 8) bits 7
     ∙ ap (λ k. unpacked (replicate k 8) bits) count in
     sym (take-append-drop q.at after)
     ∙ ap (λ l. l ++ drop q.at after) read
-    ∙ ap (λ l. to_bytes bits ++ l) d.rest
+    ∙ ap (λ l. to_bytes bits ++ l) (ap (drop q.at) held ∙ (d.rest ∙ ap (drop q.at) same))
     ∙ ap (λ k. to_bytes bits ++ drop k before) (count ∙ sym (length-to_bytes bits))
   where
     below-take : {k : ℕ} (n : ℕ) (l : List ℕ) → Below k l → Below k (take n l)

@@ -1,26 +1,23 @@
 -- An eye reads the bits of bytes in order, some whole bytes ahead of its place.
-use Rattle.std.specs.Prelude.{ℕ, ◌+◌, ◌-◌, ◌*◌, ◌%◌, ◌^◌, ◌≤◌, ◌≡◌, List}
-use Rattle.bits.specs.declared.fields.Eye.{Eye}
-use Rattle.bits.specs.declared.fields.Taken.{Taken}
+use Rattle.std.specs.Prelude.{ℕ, ◌-◌, ◌*◌, ◌%◌, ◌^◌, ◌≤◌, ◌≡◌, List, refl}
+use Rattle.std.specs.Coded.{Coded, code_by, coded×, coded_ℕ, coded_list}
 use Rattle.bits.specs.Fields.{field_at}
 
--- the place of the first bit that an eye holds
-abbrev pub place : Eye → ℕ
-place e = e.next * 8 - e.held
+-- the bytes that an eye is on, and the place of the bit that it reads next
+pub record Sight : Type 0 where
+  pub bytes : List ℕ
+  pub at : ℕ
 
--- an eye holds the w bits from its place on at least, and all up to the byte that it reads next
-pub record Sees (bytes : List ℕ) (w : ℕ) (e : Eye) : Type 0 where
-  pub bits : e.word % 2 ^ e.held ≡ field_at bytes (place e) e.held
-  pub behind : e.held ≤ e.next * 8
-  pub enough : w ≤ e.held
-  pub few : e.held ≤ 47
+abbrev pub sight : List ℕ → ℕ → Sight
+sight bytes at = record { bytes = bytes; at = at }
 
--- an eye at a place
-pub record Looks (bytes : List ℕ) (at w : ℕ) (e : Eye) : Type 0 where
-  pub sees : Sees bytes w e
-  pub here : place e ≡ at
+-- a sight is stored as the pair of its fields
+abbrev pub sight_code : Coded Sight
+sight_code =
+    code_by (List ℕ × ℕ) (coded× (coded_list coded_ℕ) coded_ℕ) (λ s. (s.bytes, s.at)) (λ p. record { bytes = p.0; at = p.1 }) (λ _. refl)
 
--- the number of w bits at the place of an eye, and the eye behind it
-pub record Takes (bytes : List ℕ) (e : Eye) (w : ℕ) (t : Taken) : Type 0 where
-  pub number : t.number ≡ field_at bytes (place e) w
-  pub onward : Looks bytes (place e + w) 0 t.eye
+-- the lowest `held` bits of a word are those before the byte that is read next
+pub record Sees (bytes : List ℕ) (next held word : ℕ) : Type 0 where
+  pub bits : word % 2 ^ held ≡ field_at bytes (next * 8 - held) held
+  pub behind : held ≤ next * 8
+  pub few : held ≤ 47

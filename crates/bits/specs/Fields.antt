@@ -5,7 +5,7 @@ use Rattle.yard.specs.Bits.{from_bits, unpacked, whole_bytes, bits_of}
 
 -- the bits that an eye can reach: more than any card has
 abbrev pub longest : ℕ
-longest = 1048576
+longest = 8388608
 
 -- the number of w bits at a place, and the n numbers of w bits each from a place on
 unfoldable pub field_at : List ℕ → ℕ → ℕ → ℕ

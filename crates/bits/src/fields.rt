@@ -1,115 +1,99 @@
 // Numbers read from the bits of a slice of bytes, most significant bit first. A bit behind the end counts as 0.
-ghost use Rattle.std.specs.Prelude.{◌≡◌, ◌+◌, ◌-◌, ◌*◌, ◌/◌, ◌%◌, ◌^◌, ◌≤◌, ◌++◌, length, get_or, drop};
+ghost use Rattle.std.specs.Prelude.{◌≡◌, ◌+◌, ◌-◌, ◌*◌, ◌≤◌, length, get_or};
 ghost use Rattle.bits.specs.Fields.{longest, field_at, fields_at, ends_at};
-ghost use Rattle.bits.specs.Eyes.{place, Sees, Looks, Takes};
 
-// An eye on bytes: the byte that it reads next, and the bits that it holds before that byte, the lowest `held` of a number.
-#[derive(Clone, Copy)]
-pub struct Eye {
-    pub next: usize,
-    pub held: usize,
-    pub word: usize,
+use std::marker::Model;
+
+// An eye on bytes, at the place of a bit: the byte that it reads next, and the bits that it holds before that byte, the lowest `held` of a
+// number. A contract sees the bytes and the place.
+#[derive(Drop)]
+pub struct Eye<'a> {
+    bytes: &'a [u8],
+    next: usize,
+    held: usize,
+    word: usize,
 }
 
-// A number, and the eye behind it.
-#[derive(Clone, Copy)]
-pub struct Taken {
-    pub number: usize,
-    pub eye: Eye,
+impl<'a> Model for Eye<'a> {
+    ghost use Rattle.std.specs.Prelude.{◌-◌, ◌*◌};
+    ghost use Rattle.bits.specs.Eyes.{Sight, sight_code, Sees};
+
+    ghost Value = { Sight };
+
+    ghost coded = { sight_code };
+
+    ghost view = { λ e. record { bytes = e.bytes.now; at = e.next * 8 - e.held } };
+
+    ghost invariant = { λ e. Sees e.bytes.now e.next e.held e.word };
 }
 
 // The byte at a place.
 fn byte(bytes: &[u8], i: usize) -> u8
     ensures { result ≡ get_or bytes.now i 0 }
 {
-    if i < bytes.len() { bytes[i] } else { 0 }
+    bytes.get(i).copied().unwrap_or(0)
 }
 
-// Four bytes as one number, the first the highest.
-fn joined(a: u8, b: u8, c: u8, d: u8) -> usize
-    ensures { result ≡ a * 16777216 + b * 65536 + c * 256 + d }
-{
-    a as usize * 16777216 + b as usize * 65536 + c as usize * 256 + d as usize
-}
-
-// The 32 bits from a byte on: where all four are there no byte is tested, so that they are one load.
+// The 32 bits from a byte on: where all four bytes are there none is tested, so that they are one load. The others go by a number of
+// 64 bits, since with 32 the compiler joined the two ways, and the load took a jump more.
 fn window(bytes: &[u8], i: usize) -> usize
     requires { i ≤ longest }
     ensures { result ≡ field_at bytes.now (i * 8) 32 }
 {
     if i + 4 <= bytes.len() {
-        joined(bytes[i], bytes[i + 1], bytes[i + 2], bytes[i + 3])
+        // `as`, since Rust has no From of a u32 for a usize.
+        u32::from_be_bytes([bytes[i], bytes[i + 1], bytes[i + 2], bytes[i + 3]]) as usize
     } else {
-        joined(
-            byte(bytes, i),
-            byte(bytes, i + 1),
-            byte(bytes, i + 2),
-            byte(bytes, i + 3),
-        )
+        let first = byte(bytes, i);
+        let second = byte(bytes, i + 1);
+        let third = byte(bytes, i + 2);
+        let fourth = byte(bytes, i + 3);
+        usize::from_be_bytes([0, 0, 0, 0, first, second, third, fourth])
     }
 }
 
-// An eye on the bits from a place on.
-pub fn look(bytes: &[u8], at: usize) -> Eye
-    requires { at ≤ longest }
-    ensures { Looks bytes.now at 16 result }
-{
-    Eye {
-        next: at / 8 + 4,
-        held: 32 - at % 8,
-        word: window(bytes, at / 8),
-    }
-}
+impl<'a> Eye<'a> {
+    ghost use Rattle.bits.specs.Eyes.{sight};
 
-// The eye with `width` bits held at least: it reads four bytes at once, and only where it holds fewer.
-fn further(bytes: &[u8], eye: Eye, width: usize) -> Eye
-    requires { (eye.next ≤ longest) × (width ≤ 16) × Sees bytes.now 0 eye }
-    ensures { Looks bytes.now (place eye) width result }
-{
-    if width <= eye.held {
-        return eye;
+    // An eye on the bits from a place on.
+    pub fn new(bytes: &'a [u8], at: usize) -> Eye<'a>
+        requires { at ≤ longest }
+        ensures { result ≡ sight bytes.now at }
+    {
+        Eye {
+            bytes,
+            next: at / 8 + 4,
+            held: 32 - at % 8,
+            word: window(bytes, at / 8),
+        }
     }
-    Eye {
-        next: eye.next + 4,
-        held: eye.held + 32,
-        word: (eye.word << 32) + window(bytes, eye.next),
+
+    // The number of `width` bits at the place, and the eye moves on behind it. It reads four bytes at once, and only where it holds too few.
+    pub fn take(&mut self, width: usize) -> usize
+        requires { (width ≤ 16) × (self.old.at ≤ longest) }
+        ensures number { result ≡ field_at self.old.bytes self.old.at width }
+        ensures onward { self.new ≡ sight self.old.bytes (self.old.at + width) }
+    {
+        if self.held < width {
+            self.word = (self.word << 32) + window(self.bytes, self.next);
+            self.next += 4;
+            self.held += 32;
+        }
+        self.held -= width;
+        (self.word >> self.held) % intake::power(width)
     }
-}
 
-// The first `width` bits that an eye holds.
-fn front(eye: Eye, width: usize) -> usize
-    requires { (width ≤ 16) × (width ≤ eye.held) × (eye.held ≤ 47) }
-    ensures { result ≡ eye.word / 2 ^ (eye.held - width) % 2 ^ width }
-{
-    (eye.word >> (eye.held - width)) % intake::power(width)
-}
-
-// The number of `width` bits at the place of an eye.
-pub fn take(bytes: &[u8], eye: Eye, width: usize) -> Taken
-    requires { (eye.next ≤ longest) × (width ≤ 16) × Sees bytes.now 0 eye }
-    ensures { Takes bytes.now eye width result }
-{
-    let near = further(bytes, eye, width);
-    Taken {
-        number: front(near, width),
-        eye: Eye {
-            next: near.next,
-            held: near.held - width,
-            word: near.word,
-        },
-    }
-}
-
-// Fills the first `count` items of a buffer with numbers of `width` bits each, from a place on.
-pub fn fields(bytes: &[u8], at: usize, width: usize, count: usize, out: &mut [u16])
-    requires { (width ≤ 16) × (at + count * width ≤ longest) × (count ≤ length out.old) }
-    ensures { out.new ≡ fields_at bytes.now at width count ++ drop count out.old }
-{
-    let mut eye = look(bytes, at);
-    for i in 0..count {
-        let taken = take(bytes, eye, width);
-        out[i] = taken.number as u16;
-        eye = taken.eye;
+    // Fills a list with the numbers of `width` bits each that follow. The eye comes by value, so that it is in registers, and the loop
+    // stands by itself: inlined into its callers it took longer.
+    #[inline(never)]
+    pub fn fill(mut self, width: usize, out: &mut [u16])
+        requires { (width ≤ 16) × (self.at + length out.old * width ≤ longest) }
+        ensures { out.new ≡ fields_at self.entry.bytes self.entry.at width (length out.old) }
+    {
+        for item in out {
+            // Of at most 16 bits, so that it fits.
+            *item = self.take(width) as u16;
+        }
     }
 }
 
@@ -118,10 +102,6 @@ pub fn ends(bytes: &[u8], at: usize) -> bool
     requires { at ≤ longest }
     ensures { result ≡ ends_at bytes.now at }
 {
-    let whole = (at + 7) / 8;
-    if bytes.len() == whole {
-        front(look(bytes, at), whole * 8 - at) == 0
-    } else {
-        false
-    }
+    let whole = at.div_ceil(8);
+    bytes.len() == whole && Eye::new(bytes, at).take(whole * 8 - at) == 0
 }

@@ -1,15 +1,17 @@
 -- What `trains` has done after the first t trains, and what one train more adds.
 use mathlib.Core.Path.{◌≡◌, refl, sym, ap, ap₂, ◌∙◌, subst}
-use mathlib.Core.List.{List, ◌++◌}
+use mathlib.Core.List.{List, [], ◌∷◌, ◌++◌}
 use Prim.Native.Nat.{ℕ, ◌+◌, ◌-◌, ◌≤◌, ◌<◌}
 use native.Mathlib.Omega.{arith}
 use lib.ListN.{length, get_or, take, drop, length-append, length-drop, length-map, take-append-drop}
 use lib.Seq.{take_at, drop_at, take-take, get_or-take, drop-drop, length-take-le, take-append-le, drop-append-le}
+use Rattle.std.specs.declared.ops.Range.{Range}
+use Rattle.yard.specs.Limits.{first_limits}
 use Rattle.yard.specs.Night.{sum}
 use Rattle.yard.proofs.general.Numbers.{below_more}
 use Rattle.yard.proofs.yards.Trains.{train-end}
 use Rattle.trains.specs.Walk.{Walked, Ends}
-use Rattle.trains.proofs.Walk.{walked_none}
+use Rattle.trains.proofs.Walk.{walked_none, reached, Stands, before_it, behind_it}
 use Rattle.blocks.specs.Trains.{Blocked, Chosen, part_of, AllBlocked, AllChosen}
 
 -- a part of a list's front
@@ -30,7 +32,7 @@ module _ (lengths costs entry : List ℕ) where
   module _ (given : AllBlocked lengths (length costs) entry) {t before end : ℕ} {now : List ℕ} (m : t < length lengths) (r : ChosenTo t before now)
       (e : Ends lengths t before end) where
     -- the next train ends among the cars
-    pub end-within : (before ≤ end) × (end ≤ length now)
+    end-within : (before ≤ end) × (end ≤ length now)
     end-within = (omega (arith, e.car), omega (arith, e.within, given.all, r.size))
 
     -- its cars have the numbers that they came with
@@ -39,7 +41,7 @@ module _ (lengths costs entry : List ℕ) where
         let cars : end - before ≡ get_or lengths t 0 = omega (arith, e.car) in
         ap₂ (λ (k : ℕ) (l : List ℕ). take k l) cars r.rest ∙ ap (λ (s : ℕ). take (get_or lengths t 0) (drop s entry)) r.walked.held
 
-    pub blocked-here : Blocked (length costs) (take (end - before) (drop before now))
+    blocked-here : Blocked (length costs) (take (end - before) (drop before now))
     blocked-here = subst (Blocked (length costs)) (sym here) (given.train t m)
 
     -- the parts of the trains before lie among the first cars
@@ -82,7 +84,7 @@ module _ (lengths costs entry : List ℕ) where
           sym (ap (take (get_or lengths t 0)) (drop_at (take before now) behind (sum (take t lengths)) (front_long ∙ r.walked.held)) ∙
           take_at part (drop (end - before) (drop before now)) (get_or lengths t 0) cars)
 
-      pub chosen-next : ChosenTo (t + 1) end (take before now ++ behind)
+      chosen-next : ChosenTo (t + 1) end (take before now ++ behind)
       chosen-next =
           record {
             walked = e.walked;
@@ -117,6 +119,27 @@ module _ (lengths costs entry : List ℕ) where
               (ap (drop (end - before)) (drop_at (take before now) behind before front_long) ∙
               (drop_at part (drop (end - before) (drop before now)) (end - before) part-long ∙
               (ap (drop (end - before)) r.rest ∙ (drop-drop (end - before) before entry ∙ ap (λ (k : ℕ). drop k entry) whole)))))
+
+  -- a walk over the trains, one after the other
+  module _ (given : AllBlocked lengths (length costs) entry) {passed : List (Range ℕ)} {cars : Range ℕ} {now : List ℕ} (stands : Stands lengths passed cars)
+      (r : ChosenTo (length passed) (reached lengths passed) now) where
+    held : ChosenTo (length passed) cars.start now
+    held = before_it stands (λ b. ChosenTo (length passed) b now) r
+
+    pub part-within : (cars.start ≤ cars.end) × (cars.end ≤ length now) × (length now ≤ first_limits.cars)
+    part-within =
+        let within = end-within given stands.more held stands.ends in
+        (within.0, within.1, omega (arith, r.size, given.few))
+
+    pub part-blocked : Blocked (length costs) (take (cars.end - cars.start) (drop cars.start now))
+    part-blocked = blocked-here given stands.more held stands.ends
+
+    pub part-chosen : {part : List ℕ} → Chosen costs (take (cars.end - cars.start) (drop cars.start now)) part
+        → ChosenTo (length (passed ++ cars ∷ [])) (reached lengths (passed ++ cars ∷ []))
+        (take cars.start now ++ (part ++ drop (cars.end - cars.start) (drop cars.start now)))
+    part-chosen {part} chosen =
+        behind_it stands cars (λ t b. ChosenTo t b (take cars.start now ++ (part ++ drop (cars.end - cars.start) (drop cars.start now))))
+        (chosen-next given stands.more held stands.ends chosen)
 
   pub chosen-all : {t before : ℕ} {now : List ℕ} → length lengths ≤ t → ChosenTo t before now → AllChosen lengths costs entry now
   chosen-all l r u m = r.done u (omega arith)

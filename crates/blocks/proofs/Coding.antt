@@ -1,9 +1,9 @@
 -- Laws of the codes looked up: the costs are those of the allowed codes, and each number chosen is that of one of them.
-use mathlib.Core.Path.{◌≡◌, ap, ◌∙◌, subst}
+use mathlib.Core.Path.{◌≡◌, sym, ap, ◌∙◌, subst}
 use mathlib.Core.Bool.{Bool}
 use mathlib.Core.List.{List, map}
 use Prim.Native.Nat.{ℕ, suc, ◌+◌, ◌-◌, ◌^◌, ◌≤◌, ◌<◌}
-use native.Mathlib.Nat.{sub-zero, lt_of_lt_of_le}
+use native.Mathlib.Nat.{lt_of_lt_of_le}
 use native.Mathlib.Omega.{arith}
 use lib.Count.{ones, ones-le}
 use lib.ListN.{length, get_or, take, drop, length-map, length-drop}
@@ -16,8 +16,7 @@ use Rattle.yard.proofs.yards.Allowed.{F-allowed}
 use Rattle.yard.proofs.yards.Trains.{train-in, train-end}
 use Rattle.yard.proofs.yards.DerivedPlan.{kept-item}
 use Rattle.codes.proofs.Steps.{F-le}
-use Rattle.scan.specs.Front.{Under, Front}
-use Rattle.scan.proofs.Front.{front_items}
+use Rattle.scan.specs.Front.{Under}
 use Rattle.blocks.specs.Trains.{Costs, part_of, AllBlocked, AllChosen, Coded}
 use Rattle.blocks.proofs.Weights.{weights-length}
 use Rattle.yard.proofs.general.Lists.{map_at, part-item}
@@ -25,10 +24,6 @@ use Rattle.yard.proofs.general.Lists.{map_at, part-item}
 -- ---- the costs of the allowed codes
 
 module _ (allowed : List ℕ) where
-  pub costs-listed : {before table : List ℕ} → Front (map (λ x. ones x) allowed) before (length allowed) table
-      → take (length allowed - 0) table ≡ map (λ x. ones x) allowed
-  costs-listed {table = table} f = ap (λ (k : ℕ). take k table) (sub-zero (length allowed)) ∙ front_items f
-
   pub costs-few : length allowed ≤ 2 ^ first_limits.steps → Under (2 ^ first_limits.steps) allowed → Costs (map (λ x. ones x) allowed)
   costs-few few under =
       record {
@@ -80,3 +75,23 @@ module _ (lengths costs before numbers : List ℕ) (blocked : AllBlocked lengths
       → Coded lengths allowed before after
   coded-all allowed after e looked =
       record { numbers = numbers; chosen = subst (λ (l : List ℕ). AllChosen lengths l before numbers) e chosen; size = size; coded = looked }
+
+-- ---- a list of what each allowed code costs
+
+module _ (lengths allowed before : List ℕ) (blocked : AllBlocked lengths (length allowed) before) {costs : List ℕ}
+    (listed : costs ≡ map (λ x. ones x) allowed) where
+  as-many : length costs ≡ length allowed
+  as-many = ap length listed ∙ length-map allowed (λ x. ones x)
+
+  costs-blocked : AllBlocked lengths (length costs) before
+  costs-blocked = subst (λ (k : ℕ). AllBlocked lengths k before) (sym as-many) blocked
+
+  pub costs-given : length allowed ≤ 2 ^ first_limits.steps → Under (2 ^ first_limits.steps) allowed → Costs costs × AllBlocked lengths (length costs) before
+  costs-given few under = (subst Costs (sym listed) (costs-few allowed few under), costs-blocked)
+
+  module _ (numbers : List ℕ) (chosen : AllChosen lengths costs before numbers) (size : length numbers ≡ length before) where
+    pub numbers-under : Under (length allowed) numbers
+    numbers-under i m = omega (arith, as-many, chosen-under lengths costs before numbers costs-blocked chosen size i m)
+
+    pub numbers-coded : {after : List ℕ} → after ≡ map (λ q. get_or allowed q 0) numbers → Coded lengths allowed before after
+    numbers-coded looked = coded-all lengths costs before numbers costs-blocked chosen size allowed _ listed looked

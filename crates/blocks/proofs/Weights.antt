@@ -2,14 +2,15 @@
 use mathlib.Core.Path.{◌≡◌, sym, ap, ◌∙◌, subst}
 use mathlib.Core.Logic.{⊎_elim}
 use mathlib.Core.List.{List, [], ◌∷◌, ◌++◌, map}
-use Prim.Native.Nat.{ℕ, suc, ◌+◌, ◌-◌, ◌*◌, ◌≤◌, ◌<◌}
-use native.Mathlib.Nat.{zero-add, sub-zero, mul-one}
+use Prim.Native.Nat.{ℕ, suc, ◌+◌, ◌*◌, ◌^◌, ◌≤◌, ◌<◌}
+use native.Mathlib.Nat.{zero-add, mul-one}
 use native.Mathlib.Numerals.{add-one}
 use native.Mathlib.Omega.{arith}
 use lib.Dec.{eqb}
-use lib.ListN.{length, get_or, take, set, replicate, length-append, length-map, length-replicate, get_or-replicate}
+use lib.ListN.{length, get_or, take, set, replicate, length-map, length-replicate, get_or-replicate}
 use lib.Seq.{take-suc, take_at, get_or-take, length-take-le, get_or-set_same, get_or-set_other, ext_get_or}
 use borrow.Author.Tests.{eqb-true, eqb-false}
+use Rattle.yard.specs.Limits.{first_limits}
 use Rattle.yard.specs.Words.{tally, count, place, up_from}
 use Rattle.yard.specs.Night.{sum}
 use Rattle.yard.proofs.general.Bools.{split}
@@ -23,9 +24,6 @@ use Rattle.choice.specs.Choice.{Cheapest, Choosable}
 use Rattle.blocks.specs.Trains.{last_of, weights_of, Weighed, Blocked, Costs, Chosen}
 
 -- ---- counted car by car
-
-pub weighed-none : (table : List ℕ) → Under 1 table → Weighed (length table) [] table
-weighed-none table zeros b m = omega (arith, zeros b m)
 
 module _ (n : ℕ) (numbers table : List ℕ) (i : ℕ) (m : i < length numbers) (w : Weighed n (take i numbers) table) where
   -- no block has more cars than were counted
@@ -68,41 +66,6 @@ module _ (numbers : List ℕ) where
   pub weights-item : (b : ℕ) → b < suc (last_of numbers) → get_or (weights_of numbers) b 0 ≡ count b numbers
   weights-item b m = map-item (λ k. count k numbers) 0 (suc (last_of numbers)) b m ∙ ap (λ (k : ℕ). count k numbers) (zero-add b)
 
-  -- the table's front, which was lent to be counted in, and what stands there then
-  module _ {blocks : ℕ} (is : blocks ≡ last_of numbers + 1) where
-    pub weights-part : (table rest : List ℕ) {n : ℕ} → length table ≡ n → n ≡ blocks → Weighed n numbers table
-        → take (blocks - 0) (table ++ rest) ≡ weights_of numbers
-    weights-part table rest {n} long e w =
-        take_at table rest (blocks - 0) (omega (arith, long, e)) ∙
-        ext_get_or 0 table (weights_of numbers) (omega (arith, long, e, is, weights-length))
-        (λ b m. w b (omega (arith, long)) ∙ sym (weights-item b (omega (arith, long, e, is))))
-
-    pub weights-within : (table rest : List ℕ) {n : ℕ} → length table ≡ n → n ≡ blocks → blocks ≤ length (table ++ rest)
-    weights-within table rest long e = omega (arith, long, e, length-append table rest)
-
-    module _ (k : ℕ) (l : blocks ≤ k) where
-      pub zeros-size : length (take (blocks - 0) (replicate {A = ℕ} k 0)) ≡ blocks
-      zeros-size = length-take-le (blocks - 0) (replicate {A = ℕ} k 0) (omega (arith, length-replicate {A = ℕ} k 0)) ∙ sub-zero blocks
-
-      pub zeros-part : Under 1 (take (blocks - 0) (replicate k 0))
-      zeros-part i m =
-          omega (
-            arith,
-            get_or-take (blocks - 0) (replicate {A = ℕ} k 0) i 0 (omega (arith, zeros-size)),
-            get_or-replicate {A = ℕ} k i 0 0 (omega (arith, zeros-size)),
-          )
-
-    -- the numbers that the blocks are given, looked up for the cars
-    pub chosen-train : (K : ℕ) (costs chosen weights after : List ℕ) → Blocked K numbers → weights ≡ weights_of numbers →
-        Cheapest weights costs (λ b. get_or chosen b 0) → after ≡ map (λ q. get_or (take (blocks - 0) chosen) q 0) numbers → Chosen costs numbers after
-    chosen-train K costs chosen weights after blocked e cheapest looked =
-        record {
-          choice = λ b. get_or chosen b 0;
-          cheapest = subst (λ (l : List ℕ). Cheapest l costs (λ b. get_or chosen b 0)) e cheapest;
-          given = looked ∙ map-alike (λ q. get_or (take (blocks - 0) chosen) q 0) (λ q. get_or chosen q 0) numbers
-              (λ i m. get_or-take (blocks - 0) chosen (get_or numbers i 0) 0 (omega (arith, is, blocked.upto i m)));
-        }
-
   -- each number is that of a block
   module _ (K : ℕ) (blocked : Blocked K numbers) where
     pub in_block : (b : ℕ) → 0 < count b numbers → b < suc (last_of numbers)
@@ -125,3 +88,51 @@ module _ (numbers : List ℕ) where
         bits = c.bits;
         cars = omega (arith, weights-sum (length costs) blocked, blocked.few);
       }
+
+  -- ---- what is lent of a table of zeros, as many places as the train has blocks, and what stands there then
+
+  module _ (costs : List ℕ) (c : Costs costs) (blocked : Blocked (length costs) numbers) {last : ℕ} (is : last ≡ last_of numbers) where
+    abbrev pub lent : List ℕ
+    lent = take (last + 1) (replicate (2 ^ first_limits.steps) 0)
+
+    blocks-few : last + 1 ≤ 2 ^ first_limits.steps
+    blocks-few = omega (arith, is, blocked.below, c.numbers)
+
+    lent-size : length lent ≡ last + 1
+    lent-size = length-take-le (last + 1) (replicate {A = ℕ} (2 ^ first_limits.steps) 0) (omega (arith, blocks-few, length-replicate {A = ℕ} (2 ^ first_limits.steps) 0))
+
+    pub lent-weighable : (length numbers ≤ first_limits.cars) × Under (length lent) numbers × Under 1 lent
+    lent-weighable = (
+      blocked.few,
+      λ i m. omega (arith, is, lent-size, blocked.upto i m),
+      λ i m.
+          omega (
+            arith,
+            get_or-take (last + 1) (replicate {A = ℕ} (2 ^ first_limits.steps) 0) i 0 (omega (arith, lent-size)),
+            get_or-replicate {A = ℕ} (2 ^ first_limits.steps) i 0 0 (omega (arith, lent-size, blocks-few)),
+          ),
+    )
+
+    pub weights-part : (table rest : List ℕ) → length table ≡ length lent → Weighed (length lent) numbers table
+        → take (last + 1) (table ++ rest) ≡ weights_of numbers
+    weights-part table rest long w =
+        take_at table rest (last + 1) (omega (arith, long, lent-size)) ∙
+        ext_get_or 0 table (weights_of numbers) (omega (arith, long, lent-size, is, weights-length))
+        (λ b m. w b (omega (arith, long)) ∙ sym (weights-item b (omega (arith, long, lent-size, is))))
+
+    pub weights-lent : {weights : List ℕ} → weights ≡ weights_of numbers → Choosable weights costs × (length weights ≤ 2 ^ first_limits.steps)
+    weights-lent e = (
+      subst (λ (l : List ℕ). Choosable l costs) (sym e) (weights-choosable costs c blocked),
+      omega (arith, ap length e, weights-length, is, blocks-few),
+    )
+
+    -- the numbers that the blocks are given, looked up for the cars
+    pub chosen-train : (chosen : List ℕ) {weights after : List ℕ} → weights ≡ weights_of numbers → Cheapest weights costs (λ b. get_or chosen b 0)
+        → after ≡ map (λ q. get_or (take (last + 1) chosen) q 0) numbers → Chosen costs numbers after
+    chosen-train chosen e cheapest looked =
+        record {
+          choice = λ b. get_or chosen b 0;
+          cheapest = subst (λ (l : List ℕ). Cheapest l costs (λ b. get_or chosen b 0)) e cheapest;
+          given = looked ∙ map-alike (λ q. get_or (take (last + 1) chosen) q 0) (λ q. get_or chosen q 0) numbers
+              (λ i m. get_or-take (last + 1) chosen (get_or numbers i 0) 0 (omega (arith, is, blocked.upto i m)));
+        }

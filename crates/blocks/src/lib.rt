@@ -11,13 +11,17 @@ ghost use Rattle.scan.specs.Front.{Under, Front};
 ghost use Rattle.choice.specs.Choice.{picks_most};
 ghost use Rattle.blocks.specs.Trains.{Weighed, Blocked, Costs, Chosen, AllBlocked, AllChosen, Coded};
 
+use trains::Trains;
+use yard::Night;
+
 // Writes how many bits of each code are set: the passes that a car with it takes beyond its first.
 fn set_bits(codes: &[u16], into: &mut [u16])
     requires { length codes.now ≤ length into.old }
     ensures { Front (map (λ x. ones x) codes.now) into.old (length codes.now) into.new }
 {
-    for i in 0..codes.len() {
-        into[i] = sorting::ones(codes[i]);
+    // By index, since of a zip with iter_mut the proof does not know what was written: tried, it did not close.
+    for (i, &code) in codes.iter().enumerate() {
+        into[i] = sorting::ones(code);
     }
 }
 
@@ -26,9 +30,8 @@ fn weigh(numbers: &[u16], weights: &mut [u16])
     requires { (length numbers.now ≤ first_limits.cars) × Under (length weights.old) numbers.now × Under 1 weights.old }
     ensures { Weighed (length weights.old) numbers.now weights.new }
 {
-    for i in 0..numbers.len() {
-        let block = numbers[i] as usize;
-        weights[block] += 1;
+    for &block in numbers {
+        weights[usize::from(block)] += 1;
     }
 }
 
@@ -37,12 +40,12 @@ fn train(costs: &[u16], picks: &mut [u8], numbers: &mut [u16])
     requires { Costs costs.now × (picks_most ≤ length picks.old) × Blocked (length costs.now) numbers.old }
     ensures { Chosen costs.now numbers.old numbers.new }
 {
-    let blocks = numbers[numbers.len() - 1] as usize + 1;
+    let blocks = usize::from(numbers[numbers.len() - 1]) + 1;
     let mut weights = [0u16; codes::CODES];
-    weigh(numbers, &mut weights[0..blocks]);
+    weigh(numbers, &mut weights[..blocks]);
     let mut chosen = [0u16; codes::CODES];
-    choice::choose(&weights[0..blocks], costs, picks, &mut chosen);
-    derive::look_up(&chosen[0..blocks], numbers);
+    choice::choose(&weights[..blocks], costs, picks, &mut chosen);
+    derive::look_up(&chosen[..blocks], numbers);
 }
 
 // The same train by train: no pair joins two trains, so each has its own cheapest numbers.
@@ -51,11 +54,8 @@ fn trains(lengths: &[u16], costs: &[u16], numbers: &mut [u16])
     ensures { AllChosen lengths.now costs.now numbers.old numbers.new }
 {
     let mut picks = [0u8; choice::PICKS];
-    let mut before: usize = 0;
-    for t in 0..lengths.len() {
-        let end = trains::end(lengths, t, before);
-        train(costs, &mut picks, &mut numbers[before..end]);
-        before = end;
+    for cars in Trains::new(lengths) {
+        train(costs, &mut picks, &mut numbers[cars]);
     }
 }
 
@@ -67,19 +67,17 @@ fn give(lengths: &[u16], allowed: &[u16], numbers: &mut [u16])
 {
     let mut costs = [0u16; codes::CODES];
     set_bits(allowed, &mut costs);
-    trains(lengths, &costs[0..allowed.len()], numbers);
+    trains(lengths, &costs[..allowed.len()], numbers);
     derive::look_up(allowed, numbers);
 }
 
 // The same with the codes that a night allows.
-pub fn find(lengths: &[u16], closed: bool, tracks: usize, steps: usize, numbers: &mut [u16])
-    requires { Within 1 first_limits.tracks tracks × (steps ≤ first_limits.steps)
-        × AllBlocked lengths.now (length (allowed_codes closed tracks steps)) numbers.old }
-    ensures { Coded lengths.now (allowed_codes closed tracks steps) numbers.old numbers.new }
+pub fn find(night: Night, steps: usize, numbers: &mut [u16])
+    requires { Within 1 first_limits.tracks night.tracks × (steps ≤ first_limits.steps)
+        × AllBlocked night.lengths.now (length (allowed_codes night.closed night.tracks steps)) numbers.old }
+    ensures { Coded night.entry.lengths.now (allowed_codes night.entry.closed night.entry.tracks steps) numbers.old numbers.new }
 {
     let mut table = [0u16; codes::CODES];
-    let allowed = codes::allowed_codes(closed, tracks, steps, &mut table);
-    let from = allowed.from;
-    let to = allowed.to;
-    give(lengths, &table[from..to], numbers);
+    let allowed = codes::allowed_codes(night.closed, night.tracks, steps, &mut table);
+    give(night.lengths, allowed, numbers);
 }

@@ -1,5 +1,5 @@
 -- Laws of the lists in car order: the place of each car, and the breaks before it, train by train.
-use mathlib.Core.Path.{◌≡◌, refl, sym, ap, ap₂, ◌∙◌}
+use mathlib.Core.Path.{◌≡◌, sym, ap, ap₂, ◌∙◌}
 use mathlib.Core.Logic.{⊎_elim}
 use mathlib.Core.List.{List, map}
 use Prim.Native.Nat.{ℕ, suc, ◌+◌, ◌-◌, max, ◌≤◌, ◌<◌}
@@ -21,7 +21,7 @@ use Rattle.yard.proofs.yards.DerivedPlan.{map-item, by-car, length-by-car}
 use Rattle.scan.proofs.Running.{tally-most, most-suc}
 use Rattle.trains.specs.Walk.{Walked, Ends}
 use Rattle.trains.specs.Turned.{turned}
-use Rattle.trains.proofs.Walk.{walked_none, walked_all, train-here}
+use Rattle.trains.proofs.Walk.{walked_all, train-here}
 use Rattle.scan.specs.Front.{Front}
 use Rattle.scan.proofs.Front.{front-item}
 use Rattle.breaks.specs.Numbers.{turns, Train, Numbers}
@@ -39,25 +39,6 @@ places-by-car inbound front j w = front-item front (j - 1) (omega arith) ∙ by-
 -- ---- one train
 
 module _ (places : List ℕ) (b : ℕ) (before : List ℕ) where
-  pub train-first : get_or before b 0 ≡ 0 → Train places b (b + 1) before 0 before
-  train-first first =
-      let none : b + 1 - suc b ≡ 0 = omega arith in
-      record {
-        breaks = rw none refl;
-        fewer = omega arith;
-        car =
-            λ i l far.
-            let here : i ≡ b = omega arith in
-            let at : i - b ≡ 0 = omega arith in
-            rw at (ap (λ (k : ℕ). get_or before k 0) here ∙ first);
-        stays = λ i l. refl;
-      }
-
-  -- what stood for the train's first car before is nothing to it
-  pub train-from : {e r : ℕ} {after : List ℕ} → Train places b e (set before b 0) r after → Train places b e before r after
-  train-from t =
-      record { breaks = t.breaks; fewer = t.fewer; car = t.car; stays = λ i l. t.stays i l ∙ get_or-set_other before b i 0 0 (λ e. omega arith) }
-
   pub train-next : {e r s : ℕ} {into : List ℕ} → s ≡ r + tally (turned places e) → e < length into → Train places b e before r into
       → Train places b (e + 1) before s (set into e s)
   train-next {e} {r} {s} {into} more m t =
@@ -100,9 +81,6 @@ pub record Counted (lengths inbound : List ℕ) (t m b : ℕ) (into : List ℕ) 
   pub listed : Numbered lengths inbound into b
 
 module _ (lengths inbound : List ℕ) (f : Listed lengths inbound) where
-  pub counted_none : (into : List ℕ) → Counted lengths inbound 0 0 0 into
-  counted_none into = record { walked = walked_none lengths; largest = refl; few = omega arith; listed = λ i l. absurd (omega arith) }
-
   pub counted-all : {t m b : ℕ} {into : List ℕ} → length lengths ≤ t → length inbound ≤ length into →
       Counted lengths inbound t m b into → Numbers lengths inbound m into
   counted-all {t} {m} {b} {into} l room c =

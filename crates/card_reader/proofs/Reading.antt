@@ -1,14 +1,16 @@
 -- Laws of the reader: where the numbers and lists of a card stand, and its verdict in parts.
 use Prim.Native.Nat.{ℕ, ◌+◌, ◌≤◌}
-use mathlib.Core.Path.{◌≡◌, sym, ap, subst, ◌∙◌}
+use mathlib.Core.Path.{◌≡◌, refl, sym, ap, subst, ◌∙◌}
 use mathlib.Core.List.{List, ◌++◌}
 use lib.ListN.{length, take, drop, replicate}
-use lib.Seq.{take_at, drop_at, drop-drop}
+use lib.Seq.{take_at, drop_at, drop-drop, length-take-le}
 use borrow.Author.Tests.{eq-eqb, ne_eqb}
 use Rattle.yard.specs.declared.Answer.{Answer}
-use Rattle.yard.specs.declared.CardAnswer.{CardAnswer}
 use Rattle.yard.specs.declared.Head.{Head}
+use Rattle.yard.specs.declared.refusal.Refusal.{Refusal}
 use Rattle.yard.specs.Night.{sum}
+use Rattle.yard.specs.Refusals.{refused}
+use Rattle.yard.proofs.calls.Told.{refused-not_done}
 use Rattle.yard.specs.Answers.{says, verdict, written}
 use Rattle.yard.specs.Bits.{Bytes, unpacked, bits_of}
 use Rattle.yard.specs.Card.{layout, head_widths, card_length, head_on, lists_on, card_plan, right_length, ends_right, no_head, reader_says}
@@ -80,78 +82,93 @@ module _ (bytes : List ℕ) where
 abbrev lists_and_last : List ℕ → Head → List Answer
 lists_and_last bytes h = night_tests_on bytes h ++ last_tests bytes h
 
-reader-parts : (bytes : List ℕ) (a b c : ℕ)
+parts-on : (bytes : List ℕ) (a b c : ℕ)
     → let h = head_on bytes in
     verdict (head_tests (length bytes) h ++ (size_tests (length bytes) h a b c ++ lists_and_last bytes h)) (says 0 0 0)
     ≡ reader_verdict bytes a b c
 unfolding reader_verdict ends_right ends_at right_length card_length
-reader-parts bytes a b c = rw (card_plan-edition bytes, plan-lengths bytes, plan-inbound bytes, end_is (head_on bytes))
+parts-on bytes a b c = rw (card_plan-edition bytes, plan-lengths bytes, plan-inbound bytes, end_is (head_on bytes))
 
-module _ (bytes : List ℕ) (a b c : ℕ) {r : Answer} (head : r ≡ verdict (head_tests (length bytes) (head_on bytes)) (says 0 0 0)) where
-  pub refused-head : (r.number ≡ 0 → ⊥) → r ≡ reader_verdict bytes a b c
-  refused-head fails =
-      let h = head_on bytes in
-      stops-all (head_tests (length bytes) h) (size_tests (length bytes) h a b c ++ lists_and_last bytes h) (says 0 0 0) r head fails
-      ∙ reader-parts bytes a b c
+pub reader-parts : (bytes : List ℕ) {h : Head} (a b c : ℕ) → h ≡ head_on bytes
+    → verdict (head_tests (length bytes) h ++ (size_tests (length bytes) h a b c ++ lists_and_last bytes h)) (says 0 0 0)
+    ≡ reader_verdict bytes a b c
+reader-parts bytes a b c head =
+    ap (λ (h : Head). verdict (head_tests (length bytes) h ++ (size_tests (length bytes) h a b c ++ lists_and_last bytes h)) (says 0 0 0)) head
+    ∙ parts-on bytes a b c
 
-  module _ (passed : r.number ≡ 0) {s : Answer} (sizes : s ≡ verdict (size_tests (length bytes) (head_on bytes) a b c) (says 0 0 0)) where
-    after-head : {t : Answer}
-        → t ≡ verdict (size_tests (length bytes) (head_on bytes) a b c ++ lists_and_last bytes (head_on bytes)) (says 0 0 0)
-        → t ≡ reader_verdict bytes a b c
-    after-head {t} e =
-        let h = head_on bytes in
-        goes-on-all (head_tests (length bytes) h) (size_tests (length bytes) h a b c ++ lists_and_last bytes h) (says 0 0 0) r head t passed e
-        ∙ reader-parts bytes a b c
+-- The verdict on a card by its parts: a part that refuses decides, and behind those that pass the next one does.
+module _ (bytes : List ℕ) (a b c : ℕ) {h : Head} (head_is : h ≡ head_on bytes) where
+  abbrev heads : List Answer
+  heads = head_tests (length bytes) h
 
-    pub refused-sizes : (s.number ≡ 0 → ⊥) → s ≡ reader_verdict bytes a b c
-    refused-sizes fails =
-        after-head (stops-all (size_tests (length bytes) (head_on bytes) a b c) (lists_and_last bytes (head_on bytes)) (says 0 0 0) s sizes fails)
+  abbrev sizes : List Answer
+  sizes = size_tests (length bytes) h a b c
 
-    module _ (whole : s.number ≡ 0) {t : Answer} (night : t ≡ verdict (night_tests_on bytes (head_on bytes)) (says 0 0 0)) where
-      after-sizes : {u : Answer} → u ≡ verdict (lists_and_last bytes (head_on bytes)) (says 0 0 0) → u ≡ reader_verdict bytes a b c
-      after-sizes {u} e =
-          after-head (goes-on-all (size_tests (length bytes) (head_on bytes) a b c) (lists_and_last bytes (head_on bytes)) (says 0 0 0) s sizes u whole e)
+  pub at-head : (e : Refusal) → refused e ≡ verdict heads (says 0 0 0) → refused e ≡ reader_verdict bytes a b c
+  at-head e is =
+      stops-all heads (sizes ++ lists_and_last bytes h) (says 0 0 0) (refused e) is (refused-not_done e) ∙ reader-parts bytes a b c head_is
 
-      pub refused-lists : (t.number ≡ 0 → ⊥) → t ≡ reader_verdict bytes a b c
-      refused-lists fails = after-sizes (stops-all (night_tests_on bytes (head_on bytes)) (last_tests bytes (head_on bytes)) (says 0 0 0) t night fails)
+  module _ (head : says 0 0 0 ≡ verdict heads (says 0 0 0)) where
+    behind-head : {t : Answer} → t ≡ verdict (sizes ++ lists_and_last bytes h) (says 0 0 0) → t ≡ reader_verdict bytes a b c
+    behind-head {t} is =
+        goes-on-all heads (sizes ++ lists_and_last bytes h) (says 0 0 0) (says 0 0 0) head t refl is ∙ reader-parts bytes a b c head_is
 
-      pub then-last : t.number ≡ 0 → {u : Answer} → u ≡ verdict (last_tests bytes (head_on bytes)) (says 0 0 0) → u ≡ reader_verdict bytes a b c
-      then-last listed {u} last =
-          after-sizes (goes-on-all (night_tests_on bytes (head_on bytes)) (last_tests bytes (head_on bytes)) (says 0 0 0) t night u listed last)
+    pub at-sizes : (e : Refusal) → refused e ≡ verdict sizes (says 0 0 0) → refused e ≡ reader_verdict bytes a b c
+    at-sizes e is = behind-head (stops-all sizes (lists_and_last bytes h) (says 0 0 0) (refused e) is (refused-not_done e))
+
+    module _ (size : says 0 0 0 ≡ verdict sizes (says 0 0 0)) where
+      behind-sizes : {t : Answer} → t ≡ verdict (lists_and_last bytes h) (says 0 0 0) → t ≡ reader_verdict bytes a b c
+      behind-sizes {t} is = behind-head (goes-on-all sizes (lists_and_last bytes h) (says 0 0 0) (says 0 0 0) size t refl is)
+
+      pub at-lists : (e : Refusal) → refused e ≡ verdict (night_tests_on bytes h) (says 0 0 0) → refused e ≡ reader_verdict bytes a b c
+      at-lists e is = behind-sizes (stops-all (night_tests_on bytes h) (last_tests bytes h) (says 0 0 0) (refused e) is (refused-not_done e))
+
+      pub at-last : {t : Answer}
+          → says 0 0 0 ≡ verdict (night_tests_on bytes h) (says 0 0 0)
+          → t ≡ verdict (last_tests bytes h) (says 0 0 0)
+          → t ≡ reader_verdict bytes a b c
+      at-last {t} listed is =
+          behind-sizes (goes-on-all (night_tests_on bytes h) (last_tests bytes h) (says 0 0 0) (says 0 0 0) listed t refl is)
 
 -- a head that passes is within the limits
-pub head-bounded : (size : ℕ) (h : Head) → (verdict (head_tests size h) (says 0 0 0)).number ≡ 0 → Bounded h
-head-bounded size h e =
+pub head_bounded : (size : ℕ) (h : Head) → (verdict (head_tests size h) (says 0 0 0)).number ≡ 0 → Bounded h
+head_bounded size h e =
     let (some, more) = ((verdict-passes (head_tests size h) (says 0 0 0)).0 e).0 in
     let (edition, more) = more in
     let (whole, counts) = more in
     edition-bounded {h = h} ((counts-passed (limits_of h.edition) h.cars h.trains h.tracks h.room h.steps).0 counts)
 
--- buffers that have room for the lists of a head within the limits
-pub record Roomy (h : Head) (l i c : List ℕ) : Type 0 where
+-- a head within the limits, and buffers that have room for its lists
+pub record Roomy (h : Head) (lengths inbound codes : ℕ) : Type 0 where
   pub bounded : Bounded h
-  pub lengths : h.trains ≤ length l
-  pub inbound : h.cars ≤ length i
-  pub codes : h.cars ≤ length c
+  pub lengths_fit : h.trains ≤ lengths
+  pub inbound_fits : h.cars ≤ inbound
+  pub codes_fit : h.cars ≤ codes
 
--- The call: with a head and a verdict in hand, the buffers after it are as they were, or hold the card's lists.
-module _ (bytes l i c : List ℕ) (given : Bytes bytes) {v : Answer} (is : v ≡ judged bytes l i c) where
-  pub reads-refused : {r : CardAnswer} → (v.number ≡ 0 → ⊥) → r ≡ reader_says v no_head → Reads bytes l i c r l i c
+pub accepted_room : (bytes : List ℕ) (a b c : ℕ) (h : Head) → says 0 0 0 ≡ reader_verdict bytes a b c → h ≡ head_on bytes → Roomy h a b c
+accepted_room bytes a b c h passed e =
+    let r = (reader-accepts-exactly bytes a b c).0 (ap (λ (v : Answer). v.number) (sym passed)) in
+    subst (λ (k : Head). Roomy k a b c) (sym e)
+    (record { bounded = edition-bounded {h = head_on bytes} r.counts; lengths_fit = r.lengths; inbound_fits = r.inbound; codes_fit = r.codes })
+
+-- The call: with a verdict in hand, the buffers after it are as they were, or hold the card's lists.
+module _ (bytes l i c : List ℕ) (given : Bytes bytes) where
+  pub reads-refused : (e : Refusal) → refused e ≡ judged bytes l i c → Reads bytes l i c (reader_says (refused e) no_head) l i c
   unfolding reader_answer
-  reads-refused fails told =
+  reads-refused e is =
       let w = judged bytes l i c in
-      let refused : w.number ≡ 0 → ⊥ = λ e. fails (ap (λ r. r.number) is ∙ e) in
+      let fails : w.number ≡ 0 → ⊥ = λ z. refused-not_done e (ap (λ (r : Answer). r.number) is ∙ z) in
       record {
         given = given;
-        answer = told ∙ rw (ne_eqb w.number 0 refused) (ap (λ v. reader_says v no_head) is);
-        lengths = sym (written-refused w (card_plan bytes).night.lengths l refused);
-        inbound = sym (written-refused w (card_plan bytes).night.inbound i refused);
-        codes = sym (written-refused w (card_plan bytes).codes c refused);
+        answer = rw (ne_eqb w.number 0 fails) (ap (λ v. reader_says v no_head) is);
+        lengths = sym (written-refused w (card_plan bytes).night.lengths l fails);
+        inbound = sym (written-refused w (card_plan bytes).night.inbound i fails);
+        codes = sym (written-refused w (card_plan bytes).codes c fails);
       }
 
-  module _ (passed : v.number ≡ 0) where
+  module _ (passed : says 0 0 0 ≡ judged bytes l i c) where
     accepted : (judged bytes l i c).number ≡ 0
-    accepted = sym (ap (λ r. r.number) is) ∙ passed
+    accepted = ap (λ (r : Answer). r.number) (sym passed)
 
     -- a list of the plan at the front of its buffer
     front : (items found buffer : List ℕ) (n : ℕ) → items ≡ found → length items ≡ n → found ++ drop n buffer ≡ written (judged bytes l i c) items buffer
@@ -161,41 +178,34 @@ module _ (bytes l i c : List ℕ) (given : Bytes bytes) {v : Answer} (is : v ≡
         ∙ ap (λ k. items ++ drop k buffer) size
         ∙ ap (λ l. l ++ drop n buffer) e)
 
-    own-accepted : {r : CardAnswer}
-        → let h = head_on bytes in
-        r ≡ reader_says v h
-        → Reads bytes l i c r
+    own-accepted : let h = head_on bytes in
+        Reads bytes l i c (reader_says (says 0 0 0) h)
         (lengths_on bytes h ++ drop h.trains l)
         (inbound_on bytes h ++ drop h.cars i)
         (codes_on bytes h ++ drop h.cars c)
     unfolding reader_answer
-    own-accepted told =
+    own-accepted =
         record {
           given = given;
-          answer = told ∙ rw (eq-eqb (judged bytes l i c).number 0 accepted) (ap (λ v. reader_says v (head_on bytes)) is);
+          answer = rw (eq-eqb (judged bytes l i c).number 0 accepted) (ap (λ v. reader_says v (head_on bytes)) passed);
           lengths = front (card_plan bytes).night.lengths _ l _ (plan-lengths bytes) (card_plan-trains bytes);
           inbound = front (card_plan bytes).night.inbound _ i _ (plan-inbound bytes) (card_plan-cars bytes);
           codes = front (card_plan bytes).codes _ c _ (plan-codes bytes) (card_plan-codes bytes);
         }
 
     -- for a head that is the card's
-    module _ {h : Head} (e : h ≡ head_on bytes) where
-      pub reads-accepted : {r : CardAnswer}
-          → r ≡ reader_says v h
-          → Reads bytes l i c r
-          (lengths_on bytes h ++ drop h.trains l)
-          (inbound_on bytes h ++ drop h.cars i)
-          (codes_on bytes h ++ drop h.cars c)
-      reads-accepted {r} =
-          subst
-          (λ (k : Head). r ≡ reader_says v k → Reads bytes l i c r (lengths_on bytes k ++ drop k.trains l) (inbound_on bytes k ++ drop k.cars i)
-          (codes_on bytes k ++ drop k.cars c))
-          (sym e)
-          own-accepted
+    pub reads-accepted : {h : Head} → h ≡ head_on bytes
+        → Reads bytes l i c (reader_says (says 0 0 0) h)
+        (lengths_on bytes h ++ drop h.trains l)
+        (inbound_on bytes h ++ drop h.cars i)
+        (codes_on bytes h ++ drop h.cars c)
+    reads-accepted e =
+        subst
+        (λ (k : Head). Reads bytes l i c (reader_says (says 0 0 0) k) (lengths_on bytes k ++ drop k.trains l) (inbound_on bytes k ++ drop k.cars i)
+        (codes_on bytes k ++ drop k.cars c))
+        (sym e)
+        own-accepted
 
-      -- the head is within the limits, and the buffers have room
-      pub accepted-room : Roomy h l i c
-      accepted-room =
-          let r = (reader-accepts-exactly bytes (length l) (length i) (length c)).0 accepted in
-          subst (λ (k : Head). Roomy k l i c) (sym e)
-          (record { bounded = edition-bounded {h = head_on bytes} r.counts; lengths = r.lengths; inbound = r.inbound; codes = r.codes })
+-- the length of a front
+pub length_front : (n : ℕ) (xs : List ℕ) → n ≤ length xs → length (take n xs) ≡ n
+length_front n xs = length-take-le n xs

@@ -3,6 +3,10 @@
 
 ghost use Rattle.std.specs.Prelude.{◌≤◌, length};
 
+use std::io::{Input, Read};
+use std::{fmt, io};
+use yard::{Answer, CardAnswer, Night, Plan};
+
 // The same card, for the trials.
 const NIGHT: [u8; 16] = [
     0x12, 0x20, 0x0C, 0x06, 0x02, 0x03, 0x00, 0x60, 0x30, 0x02, 0x02, 0x80, 0x40, 0x20, 0x2D, 0x80,
@@ -20,156 +24,167 @@ const WRONG: [u8; 20] = [
     0x00, 0x20, 0x2D, 0x80,
 ];
 
-// Prints a number and a blank.
-fn told(number: usize) {
-    io::print_decimal(1, number as u64);
-    io::write_all(1, b" ");
-}
+// The items of a list, each with a blank behind it.
+#[derive(Clone, Copy)]
+struct Items<'a>(&'a [u16]);
 
-// Prints a name, which closes the line.
-fn ended(name: &[u8]) {
-    io::write_all(1, name);
-    io::write_all(1, b"\n");
-}
-
-// Prints a list.
-fn printed(list: &[u16], name: &[u8]) {
-    for i in 0..list.len() {
-        told(list[i] as usize);
+impl fmt::Display for Items<'_> {
+    fn fmt<W: fmt::Write>(&self, f: &mut fmt::Formatter<W>) -> fmt::Result {
+        for item in self.0 {
+            write!(f, "{item} ")?;
+        }
+        Ok(())
     }
-    ended(name);
-}
-
-// Prints a number, A and B.
-fn answered(number: usize, a: usize, b: usize) {
-    told(number);
-    told(a);
-    told(b);
 }
 
 // Prints what the reader says of a card, for buffers of these sizes.
-fn tried(bytes: &[u8], trains: usize, cars: usize, codes: usize, name: &[u8])
+fn tried(
+    rt: &impl Print,
+    name: &str,
+    bytes: &[u8],
+    trains: usize,
+    cars: usize,
+    codes: usize,
+) -> io::Result<()>
     requires { (trains ≤ 8) × (cars ≤ 8) × (codes ≤ 8) }
 {
-    let mut lengths = [0u16; 8];
-    let mut inbound = [0u16; 8];
-    let mut coded = [0u16; 8];
-    let r = card::read(
+    let mut lengths = [0; 8];
+    let mut inbound = [0; 8];
+    let mut coded = [0; 8];
+    let read = card::read(
         bytes,
-        &mut lengths[0..trains],
-        &mut inbound[0..cars],
-        &mut coded[0..codes],
+        &mut lengths[..trains],
+        &mut inbound[..cars],
+        &mut coded[..codes],
     );
-    answered(r.number, r.a, r.b);
-    ended(name);
+    let told = CardAnswer::from(read);
+    println!(rt; "{} {} {} {name}", told.number, told.a, told.b)
 }
 
 // The card with one byte changed.
-fn changed(at: usize, byte: u8, name: &[u8])
+fn changed(rt: &impl Print, name: &str, at: usize, byte: u8) -> io::Result<()>
     requires { at ≤ 15 }
 {
     let mut bytes = NIGHT;
     bytes[at] = byte;
-    tried(&bytes, 1, 6, 6, name);
-}
-
-// Prints what is so.
-fn compared(same: bool, name: &[u8], other: &[u8]) {
-    if same {
-        ended(name);
-    } else {
-        ended(other);
-    }
+    tried(rt, name, &bytes, 1, 6, 6)
 }
 
 // Writes the card of a plan into a longer buffer, and compares it with the one that was read.
-fn written(lengths: &[u16], inbound: &[u16], codes: &[u16], r: yard::CardAnswer, bytes: &[u8])
+fn written(rt: &impl Print, plan: Plan, bytes: &[u8]) -> io::Result<()>
     requires { length bytes.now ≤ 32 }
 {
-    let mut again = [255u8; 34];
-    let counts = yard::Counts {
-        tracks: r.tracks,
-        room: r.room,
-        steps: r.steps,
+    let mut again = [255; 34];
+    let told = Answer::from(card::write(plan, &mut again));
+    println!(rt; "{} {} {} written", told.number, told.a, told.b)?;
+    let (card, behind) = again.split_at(bytes.len());
+    let same = if card == bytes {
+        "the same bytes"
+    } else {
+        "other bytes"
     };
-    let w = card::write(lengths, inbound, codes, r.mark != 0, counts, &mut again);
-    answered(w.number, w.a, w.b);
-    ended(b"written");
-    let n = bytes.len();
-    let behind = [255u8; 2];
-    compared(
-        check::same(&again[0..n], bytes),
-        b"the same bytes",
-        b"other bytes",
-    );
-    compared(
-        check::same(&again[n..n + 2], &behind),
-        b"and no others",
-        b"and more",
-    );
+    println!(rt; "{same}")?;
+    let kept = if behind.starts_with(&[255, 255]) {
+        "and no others"
+    } else {
+        "and more"
+    };
+    println!(rt; "{kept}")
 }
 
 // Reads a card of six cars in one train, prints what it says, and writes it back.
-fn back(bytes: &[u8])
+fn back(rt: &impl Print, bytes: &[u8]) -> io::Result<()>
     requires { length bytes.now ≤ 32 }
 {
-    let mut lengths = [0u16; 1];
-    let mut inbound = [0u16; 6];
-    let mut codes = [0u16; 6];
-    let r = card::read(bytes, &mut lengths, &mut inbound, &mut codes);
-    answered(r.number, r.a, r.b);
-    told(r.mark);
-    told(r.steps);
-    told(r.tracks);
-    told(r.room);
-    told(r.cars);
-    told(r.trains);
-    ended(b"read");
-    printed(&lengths, b"lengths");
-    printed(&inbound, b"inbound");
-    printed(&codes, b"codes");
-    written(&lengths, &inbound, &codes, r, bytes);
+    let mut lengths = [0; 1];
+    let mut inbound = [0; 6];
+    let mut codes = [0; 6];
+    let told = CardAnswer::from(card::read(bytes, &mut lengths, &mut inbound, &mut codes));
+    println!(rt;
+        "{} {} {} {} {} {} {} {} {} read",
+        told.number,
+        told.a,
+        told.b,
+        told.mark,
+        told.steps,
+        told.tracks,
+        told.room,
+        told.cars,
+        told.trains
+    )?;
+    println!(rt; "{}lengths", Items(&lengths))?;
+    println!(rt; "{}inbound", Items(&inbound))?;
+    println!(rt; "{}codes", Items(&codes))?;
+    let night = Night {
+        lengths: &lengths,
+        inbound: &inbound,
+        closed: told.mark != 0,
+        tracks: told.tracks,
+        room: told.room,
+    };
+    let plan = Plan {
+        night,
+        steps: told.steps,
+        codes: &codes,
+    };
+    written(rt, plan, bytes)
 }
 
 // Each refusal of the reader, in the order of its tests.
-fn refusals() {
-    tried(&NIGHT[0..0], 1, 6, 6, b"empty");
-    changed(0, 0x32, b"edition 3");
-    tried(&NIGHT[0..4], 1, 6, 6, b"four bytes");
-    changed(1, 0x00, b"no tracks");
-    tried(&NIGHT[0..15], 1, 6, 6, b"cut by one byte");
-    tried(&NIGHT, 0, 6, 6, b"no room for the length");
-    tried(&NIGHT, 1, 5, 6, b"room for five inbound numbers");
-    tried(&NIGHT, 1, 6, 5, b"room for five codes");
-    changed(5, 0x00, b"a train of length 0");
-    changed(5, 0x02, b"a train of four for six cars");
-    changed(7, 0xC0, b"car 6 at the first place and the second");
-    changed(15, 0x81, b"a padding bit set");
+fn refusals(rt: &impl Print) -> io::Result<()> {
+    tried(rt, "empty", &NIGHT[..0], 1, 6, 6)?;
+    changed(rt, "edition 3", 0, 0x32)?;
+    tried(rt, "four bytes", &NIGHT[..4], 1, 6, 6)?;
+    changed(rt, "no tracks", 1, 0x00)?;
+    tried(rt, "cut by one byte", &NIGHT[..15], 1, 6, 6)?;
+    tried(rt, "no room for the length", &NIGHT, 0, 6, 6)?;
+    tried(rt, "room for five inbound numbers", &NIGHT, 1, 5, 6)?;
+    tried(rt, "room for five codes", &NIGHT, 1, 6, 5)?;
+    changed(rt, "a train of length 0", 5, 0x00)?;
+    changed(rt, "a train of four for six cars", 5, 0x02)?;
+    changed(rt, "car 6 at the first place and the second", 7, 0xC0)?;
+    changed(rt, "a padding bit set", 15, 0x81)?;
     let longer = [
-        0x12u8, 0x20, 0x0C, 0x06, 0x02, 0x03, 0x00, 0x60, 0x30, 0x02, 0x02, 0x80, 0x40, 0x20, 0x2D,
+        0x12, 0x20, 0x0C, 0x06, 0x02, 0x03, 0x00, 0x60, 0x30, 0x02, 0x02, 0x80, 0x40, 0x20, 0x2D,
         0x80, 0,
     ];
-    tried(&longer, 1, 6, 6, b"one byte more");
+    tried(rt, "one byte more", &longer, 1, 6, 6)
 }
 
 // The refusals that edition 2 has of its own, and its limits.
-fn second_refusals() {
-    tried(&CLOSED[0..6], 1, 6, 6, b"six bytes of edition 2");
-    tried(&CLOSED[0..19], 1, 6, 6, b"edition 2 cut by one byte");
-    tried(&WRONG, 1, 6, 6, b"an open night that fits edition 1");
+fn second_refusals(rt: &impl Print) -> io::Result<()> {
+    tried(rt, "six bytes of edition 2", &CLOSED[..6], 1, 6, 6)?;
+    tried(rt, "edition 2 cut by one byte", &CLOSED[..19], 1, 6, 6)?;
+    tried(rt, "an open night that fits edition 1", &WRONG, 1, 6, 6)?;
     let mut tracks = CLOSED;
     tracks[1] = 0xE2;
-    tried(&tracks, 1, 6, 6, b"17 tracks");
+    tried(rt, "17 tracks", &tracks, 1, 6, 6)?;
     let mut padded = WRONG;
     padded[19] = 0x81;
-    tried(&padded, 1, 6, 6, b"a padding bit set before the edition");
+    tried(rt, "a padding bit set before the edition", &padded, 1, 6, 6)
 }
 
-fn main() {
-    let mut input = [0u8; 32];
-    let n = io::read_full(0, &mut input);
-    back(&input[..n]);
-    refusals();
-    back(&CLOSED);
-    second_refusals();
+// Reads standard input to its end, or as much as there is room for, and tells how many bytes came.
+fn input(rt: &impl Input, card: &mut [u8]) -> usize
+    ensures { result ≤ length card.new }
+{
+    let mut reader = rt.reader();
+    let mut bytes = 0;
+    // Until nothing comes: std's `read_exact` does not tell how much came before that.
+    while bytes < card.len() {
+        match reader.read(&mut card[bytes..]) {
+            Ok(0) | Err(_) => break,
+            Ok(n) => bytes += n,
+        }
+    }
+    bytes
+}
+
+fn main(rt: HostRuntime) -> io::Result<()> {
+    let mut card = [0; 32];
+    let bytes = input(&rt, &mut card);
+    back(&rt, &card[..bytes])?;
+    refusals(&rt)?;
+    back(&rt, &CLOSED)?;
+    second_refusals(&rt)
 }

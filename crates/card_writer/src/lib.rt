@@ -1,75 +1,91 @@
 // The writer's tests, and the card drawn field by field.
 #![tactic(auto)]
 
-ghost use Rattle.std.specs.Prelude.{◌≡◌, ◌*◌, ◌≤◌, length};
+ghost use Rattle.std.specs.Prelude.{◌≡◌, ◌+◌, ◌≤◌, length};
 ghost use Rattle.yard.specs.Limits.{limits};
 ghost use Rattle.yard.specs.Night.{sum};
 ghost use Rattle.yard.specs.Bits.{packed};
-ghost use Rattle.yard.specs.Card.{layout, head_widths, head_fields, head_of, writer_answer};
-ghost use Rattle.bits.specs.Pens.{fresh, Draws};
-ghost use Rattle.card_writer.specs.Writing.{plan_with, Drawable, card_over};
+ghost use Rattle.yard.specs.Card.{head_widths, head_fields, head_of, writer_answer};
+ghost use Rattle.yard.specs.Lent.{the_plan};
+ghost use Rattle.yard.specs.Refusals.{count_told};
+ghost use Rattle.bits.specs.Pens.{HasRoom, Draws, reach};
+ghost use Rattle.format.specs.Format.{Narrow};
+ghost use Rattle.card_writer.specs.Writing.{IsDrawable, card_over};
 
-use bits::pens;
 use bits::pens::Pen;
-use yard::{Answer, Head};
+use yard::{Head, Layout, ListName, Plan, Refusal};
 
-// Draws the head of a card, its numbers one behind the other.
-fn draw_head(card: &mut [u8], head: Head) -> Pen
-    requires { sum (head_widths (layout head.edition)) ≤ length card.old * 8 }
-    ensures { Draws 31 (packed (head_widths (layout head.edition)) (head_fields head)) card.old fresh card.new result }
-{
-    let l = format::layout_of(head.edition);
-    let start = Pen {
-        at: 0,
-        count: 0,
-        pending: 0,
-    };
-    let edition = pens::put(card, start, 4, head.edition);
-    let mark = pens::put(card, edition, l.mark, head.mark);
-    let steps = pens::put(card, mark, l.steps, head.steps);
-    let tracks = pens::put(card, steps, l.tracks, head.tracks);
-    let room = pens::put(card, tracks, l.room, head.room);
-    let cars = pens::put(card, room, l.cars, head.cars);
-    pens::put(card, cars, l.trains, head.trains)
+// A plan, and the numbers at the head of its card.
+#[derive(Clone, Copy)]
+pub struct Draft<'a> {
+    pub plan: Plan<'a>,
+    pub head: Head,
+    ghost head_is: { head ≡ head_of (the_plan plan) },
 }
 
-// Draws the card of a plan, with zero bits to the byte.
-pub fn draw(lengths: &[u16], inbound: &[u16], codes: &[u16], head: Head, card: &mut [u8])
-    requires { Drawable head (plan_with head lengths.now inbound.now codes.now) (length card.old) }
-    ensures { card.new ≡ card_over (plan_with head lengths.now inbound.now codes.now) card.old }
+// Draws the head of a card in the widths of its edition, its numbers one behind the other.
+fn draw_head(pen: &mut Pen, l: Layout, head: Head)
+    requires { Narrow l × HasRoom (sum (head_widths l)) pen.old }
+    ensures drawn { Draws (packed (head_widths l) (head_fields head)) pen.old pen.new }
+    ensures reached { reach pen.new ≡ reach pen.old + sum (head_widths l) }
 {
-    let l = format::layout_of(head.edition);
-    let with_head = draw_head(card, head);
-    let with_lengths = pens::puts(card, with_head, l.number, lengths);
-    let with_inbound = pens::puts(card, with_lengths, l.number, inbound);
-    let with_codes = pens::puts(card, with_inbound, head.steps, codes);
-    pens::close(card, with_codes);
+    pen.put(4, head.edition);
+    pen.put(l.mark, head.mark);
+    pen.put(l.steps, head.steps);
+    pen.put(l.tracks, head.tracks);
+    pen.put(l.room, head.room);
+    pen.put(l.cars, head.cars);
+    pen.put(l.trains, head.trains);
 }
 
-// 1, 2, 3, 4, 7 and 4: the writer's answer on a plan with this head, for a buffer of this size.
-pub fn answer(lengths: &[u16], inbound: &[u16], codes: &[u16], head: Head, size: usize) -> Answer
-    requires { head ≡ head_of (plan_with head lengths.now inbound.now codes.now) }
-    ensures { result ≡ writer_answer limits (plan_with head lengths.now inbound.now codes.now) size }
-{
-    let counts = intake::counts(
-        intake::limits(),
-        head.cars,
-        head.trains,
-        head.tracks,
-        head.room,
-        head.steps,
-    );
-    if counts.number != 0 {
-        return counts;
+impl<'a> Draft<'a> {
+    // A plan with its head: edition 1 where the night is open and the plan fits it, else edition 2.
+    pub fn new(plan: Plan<'a>) -> Draft<'a>
+        ensures { the_plan result.plan ≡ the_plan plan.entry }
+    {
+        let sizes = plan.night.sizes(plan.steps);
+        let head = Head {
+            edition: format::edition_for(plan.night.closed, sizes),
+            mark: usize::from(plan.night.closed),
+            steps: sizes.steps,
+            tracks: sizes.tracks,
+            room: sizes.room,
+            cars: sizes.cars,
+            trains: sizes.trains,
+        };
+        Draft { plan, head }
     }
-    let night = lists::lists(lengths, inbound);
-    if night.number != 0 {
-        return night;
+
+    // 1, 2, 3, 4, 7 and 4: the bytes of the card, where the plan may be written on a buffer of this size.
+    #[tactic(auto, unfolding(yard::specs::Card::writer_answer))]
+    pub fn tested(&self, size: usize) -> Result<usize, Refusal>
+        ensures { count_told result ≡ writer_answer limits (the_plan self.now.plan) size }
+    {
+        let plan = self.plan;
+        intake::counts(yard::LIMITS, self.head.into())?;
+        lists::lists(plan.night.lengths, plan.night.inbound)?;
+        intake::list(
+            ListName::Codes,
+            plan.codes.len() == plan.night.inbound.len(),
+        )?;
+        lists::codes(plan.codes, plan.steps)?;
+        let bytes = format::length(self.head);
+        intake::list(ListName::Card, bytes <= size)?;
+        Ok(bytes)
     }
-    if codes.len() != inbound.len() {
-        return intake::answer(4, 3, 0);
+
+    // Draws the card of a plan, with zero bits to the byte. Inlined into the call it took a twentieth longer, as its loops ran short of registers.
+    #[inline(never)]
+    pub fn draw(&self, card: &mut [u8])
+        requires { IsDrawable (the_plan self.now.plan) (length card.old) }
+        ensures { card.new ≡ card_over (the_plan self.now.plan) card.old }
+    {
+        let l = format::layout_of(self.head.edition);
+        let mut pen = Pen::new(card);
+        draw_head(&mut pen, l, self.head);
+        pen.puts(l.number, self.plan.night.lengths);
+        pen.puts(l.number, self.plan.night.inbound);
+        pen.puts(self.head.steps, self.plan.codes);
+        pen.close();
     }
-    let bytes = format::length(head);
-    let last = intake::unless(intake::list(6, bytes <= size), intake::answer(0, bytes, 0));
-    intake::unless(lists::codes(codes, head.steps), last)
 }

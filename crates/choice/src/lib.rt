@@ -13,7 +13,8 @@ const NUMBERS: usize = 1 << yard::FIRST_STEPS;
 pub const PICKS: usize = NUMBERS / 2 * (NUMBERS / 2 + 1);
 
 // One block, from the last choice to the first: the row of the least costs behind it becomes its own, in place, and each pick is written.
-// Of choices that cost the same the smaller is taken, since it is met later. This is where the time goes.
+// Of choices that cost the same the smaller is taken, since it is met later. This is where the time goes. The loop goes by
+// index, since four lists side by side, in reverse, would be no plainer.
 fn row(weights: &[u16], costs: &[u16], b: usize, width: usize, behind: &mut [u16], picks: &mut [u8])
     requires { (b < length weights.now) × (b + width ≤ length costs.now) × (width ≤ 2 ^ first_limits.steps) × (width ≤ length behind.old) ×
         (b * width + width ≤ length picks.old) × ((d : ℕ) → d < width → together weights.now costs.now b behind.old d ≤ 65535) }
@@ -24,12 +25,11 @@ fn row(weights: &[u16], costs: &[u16], b: usize, width: usize, behind: &mut [u16
     let at = b * width;
     let mut least: u16 = 65535;
     let mut pick: u8 = 0;
-    let mut d = width;
-    while 0 < d {
-        d -= 1;
+    for d in (0..width).rev() {
         let cost = weight * costs[b + d] + behind[d];
         if cost <= least {
             least = cost;
+            // A number to spare is below 256, so that it fits.
             pick = d as u8;
         }
         behind[d] = least;
@@ -43,23 +43,21 @@ fn rows(weights: &[u16], costs: &[u16], width: usize, picks: &mut [u8])
     ensures { Table weights.now costs.now 0 picks.new }
 {
     let mut behind = [0u16; NUMBERS];
-    let mut b = weights.len();
-    while 0 < b {
-        b -= 1;
+    for b in (0..weights.len()).rev() {
         row(weights, costs, b, width, &mut behind, picks);
     }
 }
 
 // The choice that the table leads to, from the first block on.
-fn follow(picks: &[u8], blocks: usize, width: usize, chosen: &mut [u16])
-    requires { (blocks ≤ 2 ^ first_limits.steps) × (blocks ≤ length chosen.old) ×
-        ((b : ℕ) → b < blocks → b * width + reached picks.now width b < length picks.now) }
-    ensures { (b : ℕ) → b < blocks → get_or chosen.new b 0 ≡ b + reached picks.now width (suc b) }
+fn follow(picks: &[u8], width: usize, chosen: &mut [u16])
+    requires { (length chosen.old ≤ 2 ^ first_limits.steps) × ((b : ℕ) → b < length chosen.old → b * width + reached picks.now width b < length picks.now) }
+    ensures { (b : ℕ) → b < length chosen.old → get_or chosen.new b 0 ≡ b + reached picks.now width (suc b) }
 {
-    let mut d: usize = 0;
-    for b in 0..blocks {
-        d = picks[b * width + d] as usize;
-        chosen[b] = (b + d) as u16;
+    let mut d = 0;
+    for (b, number) in chosen.iter_mut().enumerate() {
+        d = usize::from(picks[b * width + d]);
+        // A code of the first steps, so that it fits.
+        *number = (b + d) as u16;
     }
 }
 
@@ -70,5 +68,5 @@ pub fn choose(weights: &[u16], costs: &[u16], picks: &mut [u8], chosen: &mut [u1
 {
     let width = costs.len() - weights.len() + 1;
     rows(weights, costs, width, picks);
-    follow(picks, weights.len(), width, chosen);
+    follow(picks, width, &mut chosen[..weights.len()]);
 }

@@ -137,9 +137,6 @@ entry h code m = map-item (widest_gap h) 0 (2 ^ h) code m ∙ ap (widest_gap h) 
 
 -- the same of a list that is the table
 module _ (table : List ℕ) (is : table ≡ gaps first_limits.steps) where
-  pub entry-within : (code : ℕ) → code < 2 ^ first_limits.steps → code < length table
-  entry-within code m = omega (arith, ap length is, gaps-length first_limits.steps)
-
   pub told : (code : ℕ) → code < 2 ^ first_limits.steps → get_or table code 0 ≡ widest_gap first_limits.steps code
   told code m = ap (λ (l : List ℕ). get_or l code 0) is ∙ entry first_limits.steps code m
 

@@ -4,10 +4,10 @@ use mathlib.Core.Logic.{◌⊎◌, inl, inr, ⊎_elim}
 use mathlib.Core.Bool.{Bool}
 use mathlib.Core.List.{List}
 use Prim.Native.Nat.{ℕ, zero, suc, ◌+◌, ◌*◌, ◌-◌, ◌/◌, ◌%◌, ◌^◌, ◌≤◌, ◌<◌}
-use native.Mathlib.Nat.{mod-lt, mod-eq_of_lt, div-add-mod', lt_of_mul-lt-mul_right, mul-le-mul_right, add-mod_right, eq-or-lt_of_le, two-pow-succ}
+use native.Mathlib.Nat.{mod-lt, div-add-mod', lt_of_mul-lt-mul_right, mul-le-mul_right, add-mod_right, eq-or-lt_of_le, two-pow-succ}
 use native.Mathlib.Omega.{arith}
 use lib.Dec.{leb}
-use lib.ListN.{length, get_or, set, replicate, get_or-replicate}
+use lib.ListN.{length, get_or, set}
 use lib.Seq.{get_or-set_same, get_or-set_other}
 use borrow.Author.Tests.{le-leb, lt-leb, leb-false}
 use Rattle.yard.specs.Words.{first}
@@ -35,11 +35,6 @@ module _ (W : ℕ) (pos : 0 < W) where
   apart s l m n e =
       let q : s / W < l / W = lt_of_mul-lt-mul_right W (omega (arith, div-add-mod' s W, div-add-mod' l W)) in
       omega (arith, div-add-mod' s W, div-add-mod' l W, mul-le-mul_right W q)
-
-  pub ring-first : (n : ℕ) → W ≤ n → Ring W (replicate n 0) 0
-  ring-first n room j l m =
-      let near : j < W = omega arith in
-      rw (mod-eq_of_lt near, lt-leb W j near) (get_or-replicate n j 0 0 (omega arith))
 
   pub ring-next : (ring : List ℕ) (h : ℕ) → W ≤ length ring → Ring W ring h → Ring W (set ring (h % W) (F W h)) (h + 1)
   ring-next ring h room held j l m = ⊎_elim here there (le-or-lt (h + W) j)

@@ -29,29 +29,6 @@ use Rattle.derive.specs.Plans.{first_tests, settled, Settles, planned, Planned}
 
 -- ---- the room, worked out from the codes
 
-module _ (room steps : ℕ) (derived before : List ℕ) {r : Answer} {full : ℕ} (e : full ≡ first_above room derived steps) where
-  pub settles-full : {cars : ℕ} → r ≡ says 6 full cars → full < steps → cars ≡ pull_of derived full → Settles room steps derived before r before
-  settles-full {cars} says_so m q =
-      record {
-        answer = says_so ∙ (ap₂ (says 6) e (q ∙ ap (pull_of derived) e) ∙ refused (lt-leb steps (first_above room derived steps) (omega arith)));
-        codes = sym (ap (λ (a : Answer). written a derived before) says_so);
-      }
-    where
-      refused : leb steps (first_above room derived steps) ≡ false
-          → says 6 (first_above room derived steps) (pull_of derived (first_above room derived steps)) ≡ settled room steps derived
-      refused f = rw f refl
-
-  pub settles-fits : {p : ℕ} {after : List ℕ} → r ≡ says 0 steps p → steps ≤ full → p ≡ length derived + set_below steps derived
-      → after ≡ derived ++ drop (length derived) before → Settles room steps derived before r after
-  settles-fits {p} {after} says_so m q copied =
-      record {
-        answer = says_so ∙ (ap (says 0 steps) q ∙ accepted (le-leb steps (first_above room derived steps) (omega arith)));
-        codes = copied ∙ sym (ap (λ (a : Answer). written a derived before) says_so);
-      }
-    where
-      accepted : leb steps (first_above room derived steps) ≡ true → says 0 steps (length derived + set_below steps derived) ≡ settled room steps derived
-      accepted t = rw t refl
-
 -- the room and the passes of a plan that pulls no car early are those worked out from its codes
 module _ (p : Plan) (f : Listed p.night.lengths p.night.inbound) (sorts : Sorts p) where
   full-codes : first_overfull p ≡ first_above p.night.room p.codes p.steps

@@ -3,7 +3,6 @@ use mathlib.Core.Path.{◌≡◌, ap, ap₂, ◌∙◌}
 use mathlib.Core.Bool.{Bool}
 use mathlib.Core.List.{List, ◌++◌, map, map-map}
 use Prim.Native.Nat.{ℕ, ◌+◌, ◌-◌, ◌≤◌, ◌<◌}
-use native.Mathlib.Nat.{sub-zero}
 use native.Mathlib.Omega.{arith}
 use lib.ListN.{length, take, length-append}
 use lib.Seq.{take_at}
@@ -45,10 +44,10 @@ module _ (n : Night) (f : Listed n.lengths n.inbound) (pos : 0 < n.tracks) where
     number = breaks_before n.lengths n.inbound
 
     -- there is an allowed code for each number
-    pub numbers-below : Under (F n.tracks steps - tally n.closed) (take (length n.inbound - 0) list)
+    pub numbers-below : Under (F n.tracks steps - tally n.closed) (take (length n.inbound) list)
     unfolding number
     numbers-below =
-        rw (sub-zero, k.listed)
+        rw k.listed
         (λ i l.
         let car : i < length n.inbound = omega (arith, length-by-car number (length n.inbound)) in
         omega (
@@ -58,20 +57,9 @@ module _ (n : Night) (f : Listed n.lengths n.inbound) (pos : 0 < n.tracks) where
           ap (F n.tracks) needed,
         ))
 
-    coded : map (code_number n.closed n.tracks steps) (take (length n.inbound - 0) list) ≡ derived_codes n
+    pub coded : map (code_number n.closed n.tracks steps) (take (length n.inbound) list) ≡ derived_codes n
     unfolding derived_codes number
     coded =
-        rw (sub-zero, k.listed)
+        rw k.listed
         (map-map (code_number n.closed n.tracks steps) number (cars (length n.inbound)) ∙
         ap (λ (h : ℕ). map (λ car. code_number n.closed n.tracks h (number car)) (cars (length n.inbound))) needed)
-
-    -- the codes given stand at the front of their list
-    module _ {codes : List ℕ} (given : codes ≡ map (code_number n.closed n.tracks steps) (take (length n.inbound - 0) list)) where
-      sized : length codes ≡ length n.inbound
-      sized = ap length (given ∙ coded) ∙ derived-length n f pos
-
-      pub part-within : (rest : List ℕ) → length n.inbound ≤ length (codes ++ rest)
-      part-within rest = omega (arith, sized, length-append codes rest)
-
-      pub part-coded : (rest : List ℕ) → take (length n.inbound - 0) (codes ++ rest) ≡ derived_codes n
-      part-coded rest = take_at codes rest (length n.inbound - 0) (omega (arith, sized)) ∙ (given ∙ coded)

@@ -4,7 +4,6 @@ use mathlib.Core.List.{List, [], ◌∷◌}
 use Prim.Native.Nat.{ℕ}
 use lib.ListN.{length}
 use Rattle.yard.specs.declared.Answer.{Answer}
-use Rattle.yard.specs.declared.Limits.{Limits}
 use Rattle.yard.specs.Limits.{first_limits}
 use Rattle.yard.specs.Night.{Night}
 use Rattle.yard.specs.Replay.{passes}
@@ -27,12 +26,9 @@ first-passed n h size g =
     (accepted-exactly (says 0 0 0) refl (first-asks first_limits n h size)
     (opening-sound first_limits n h [] own tt (λ _. (buffer-right 3 (length n.inbound) size, λ _. tt)))).1 ((first-hold first_limits n h size).1 g)
 
--- the answer of those tests by the limits that they were given: refused, it is that of the call; passed, the plan answers
-module _ (n : Night) (h : ℕ) (before : List ℕ) {most : Limits} (keeps : most ≡ first_limits) {given : Answer}
-    (is : given ≡ verdict (first_tests most n h (length before)) (says 0 0 0)) where
-  is-first : given ≡ verdict (first_tests first_limits n h (length before)) (says 0 0 0)
-  is-first = is ∙ ap (λ (L : Limits). verdict (first_tests L n h (length before)) (says 0 0 0)) keeps
-
+-- the answer of those tests: refused, it is that of the call; passed, the plan answers
+module _ (n : Night) (h : ℕ) (before : List ℕ) {given : Answer}
+    (is : given ≡ verdict (first_tests first_limits n h (length before)) (says 0 0 0)) where
   own-tests : List ℕ → List Answer
   own-tests codes = limit_test (steps_needed n) h ∷ room_test (plan_in n h codes) ∷ []
 
@@ -45,14 +41,14 @@ module _ (n : Night) (h : ℕ) (before : List ℕ) {most : Limits} (keeps : most
   fewest-refused none =
       record {
         found = [];
-        fewest = λ g s. absurd (none (ap (λ (a : Answer). a.number) is-first ∙ first-passed n h (length before) g));
-        answer = stops-all (first_tests first_limits n h (length before)) (own-tests []) (done []) given is-first none;
+        fewest = λ g s. absurd (none (ap (λ (a : Answer). a.number) is ∙ first-passed n h (length before) g));
+        answer = stops-all (first_tests first_limits n h (length before)) (own-tests []) (done []) given is none;
         codes = sym (written-refused given [] before none);
       }
 
   -- passed, so that the plan answers
   pub fewest-given : given.number ≡ 0 → DeriveGiven first_limits n h (length before)
-  fewest-given z = given-passed first_limits n h before is-first z
+  fewest-given z = given-passed first_limits n h before is z
 
   pub fewest-found : {r : Answer} {after : List ℕ} → given.number ≡ 0 → Found n h before r after → FindsFewest n h before r after
   unfolding fewest_answer own-tests done
@@ -61,7 +57,7 @@ module _ (n : Night) (h : ℕ) (before : List ℕ) {most : Limits} (keeps : most
         found = found.codes;
         fewest = λ g s. found.fewest s;
         answer =
-            goes-on-all (first_tests first_limits n h (length before)) (own-tests found.codes) (done found.codes) given is-first r z
+            goes-on-all (first_tests first_limits n h (length before)) (own-tests found.codes) (done found.codes) given is r z
             found.planned.answer;
         codes = found.planned.codes;
       }

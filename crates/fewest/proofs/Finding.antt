@@ -1,12 +1,10 @@
 -- Laws of the codes found: from the breaks before the cars to the codes with the fewest passes, and to what the plan answers.
 use mathlib.Core.Path.{◌≡◌, refl, sym, ap, ◌∙◌, subst}
-use mathlib.Core.List.{List, [], ◌++◌, map, map-map}
+use mathlib.Core.List.{List, [], map, map-map}
 use Prim.Native.Nat.{ℕ, ◌+◌, ◌-◌, ◌≤◌, ◌<◌}
-use native.Mathlib.Nat.{sub-zero}
 use native.Mathlib.Omega.{arith}
 use lib.Count.{ones}
-use lib.ListN.{length, get_or, take, length-append}
-use lib.Seq.{take_at}
+use lib.ListN.{length, get_or, take}
 use Rattle.yard.specs.declared.Answer.{Answer}
 use Rattle.yard.specs.Limits.{first_limits}
 use Rattle.yard.specs.Night.{Night, cars, item_of, breaks_before, most_breaks}
@@ -24,7 +22,7 @@ use Rattle.fewest.specs.Found.{Found}
 use Rattle.blocks.specs.Trains.{AllBlocked, AllChosen, Coded}
 use Rattle.fewest.proofs.Numbers.{codes_of, best-fewest}
 use Rattle.fewest.proofs.Steps.{sorted-exactly}
-use Rattle.fewest.proofs.Nights.{breaks_by, all-blocked, night-best}
+use Rattle.fewest.proofs.Nights.{all-blocked, night-best}
 use Rattle.yard.proofs.yards.Counting.{F-more}
 
 module _ (n : Night) (h : ℕ) (f : Listed n.lengths n.inbound) (pos : 0 < n.tracks) where
@@ -41,18 +39,15 @@ module _ (n : Night) (h : ℕ) (f : Listed n.lengths n.inbound) (pos : 0 < n.tra
       )
 
   module _ {steps : ℕ} {list : List ℕ} (k : Needs n.lengths n.inbound n.closed n.tracks steps list) where
-    numbers-are : take (length n.inbound - 0) list ≡ breaks_by n f
-    numbers-are = ap (λ (i : ℕ). take i list) (sub-zero (length n.inbound)) ∙ k.listed
-
     pub numbers-blocked : steps_needed n ≤ h → length n.inbound ≤ first_limits.cars
-        → AllBlocked n.lengths (length (allowed_codes n.closed n.tracks h)) (take (length n.inbound - 0) list)
+        → AllBlocked n.lengths (length (allowed_codes n.closed n.tracks h)) (take (length n.inbound) list)
     numbers-blocked l few =
-        subst (AllBlocked n.lengths (length (allowed_codes n.closed n.tracks h))) (sym numbers-are)
+        subst (AllBlocked n.lengths (length (allowed_codes n.closed n.tracks h))) (sym k.listed)
         (all-blocked n f (length (allowed_codes n.closed n.tracks h)) (codes-enough l) few)
 
-    module _ {codes : List ℕ} (coded : Coded n.lengths (allowed_codes n.closed n.tracks h) (take (length n.inbound - 0) list) codes) where
+    module _ {codes : List ℕ} (coded : Coded n.lengths (allowed_codes n.closed n.tracks h) (take (length n.inbound) list) codes) where
       long : length coded.numbers ≡ length n.inbound
-      long = coded.size ∙ (ap length numbers-are ∙ length-by-car (λ car. breaks_before n.lengths n.inbound car) (length n.inbound))
+      long = coded.size ∙ (ap length k.listed ∙ length-by-car (λ car. breaks_before n.lengths n.inbound car) (length n.inbound))
 
       same : codes ≡ codes_of n h (λ car. item_of coded.numbers car)
       unfolding code_number
@@ -67,18 +62,8 @@ module _ (n : Night) (h : ℕ) (f : Listed n.lengths n.inbound) (pos : 0 < n.tra
           subst (FewestPasses n h) (sym same)
           (best-fewest n h f pos (λ car. item_of coded.numbers car)
           (night-best n f (map (λ x. ones x) (allowed_codes n.closed n.tracks h)) coded.numbers long
-          (subst (λ (l : List ℕ). AllChosen n.lengths (map (λ x. ones x) (allowed_codes n.closed n.tracks h)) l coded.numbers) numbers-are
+          (subst (λ (l : List ℕ). AllChosen n.lengths (map (λ x. ones x) (allowed_codes n.closed n.tracks h)) l coded.numbers) k.listed
           coded.chosen)))
-
-      found-long : length codes ≡ length n.inbound
-      found-long = found-fewest.sorts.codes.each
-
-      -- the codes found stand at the front of their list
-      pub found_within : (rest : List ℕ) → length n.inbound ≤ length (codes ++ rest)
-      found_within rest = omega (arith, found-long, length-append codes rest)
-
-      pub found_part : (rest : List ℕ) → take (length n.inbound - 0) (codes ++ rest) ≡ codes
-      found_part rest = take_at codes rest (length n.inbound - 0) (omega (arith, found-long))
 
       pub found-settled : {before part after : List ℕ} {r : Answer} → steps_needed n ≤ h → part ≡ codes → Settles n.room h part before r after
           → Found n h before r after

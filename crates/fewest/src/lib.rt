@@ -4,67 +4,34 @@
 
 ghost use Rattle.std.specs.Prelude.{length};
 ghost use Rattle.yard.specs.Limits.{first_limits};
-ghost use Rattle.yard.specs.Night.{night_of, night_given};
+ghost use Rattle.yard.specs.Lent.{the_night};
 ghost use Rattle.yard.specs.Calls.{DeriveGiven};
+ghost use Rattle.yard.specs.Refusals.{plan_told};
 ghost use Rattle.fewest.specs.Fewest.{FindsFewest};
 ghost use Rattle.fewest.specs.Found.{Found};
 
-use yard::{Answer, Counts};
+use yard::{Derived, Night, Refusal};
 
 // 5 or 6 for the codes found, or else their steps and passes, with the codes written.
-fn plan(
-    lengths: &[u16],
-    inbound: &[u16],
-    closed: bool,
-    tracks: usize,
-    room: usize,
-    steps: usize,
-    codes: &mut [u16],
-) -> Answer
-    requires { DeriveGiven first_limits (night_of lengths.now inbound.now closed tracks room) steps (length codes.old) }
-    ensures { Found (night_of lengths.now inbound.now closed tracks room) steps codes.old result codes.new }
+fn plan(night: Night, steps: usize, codes: &mut [u16]) -> Result<Derived, Refusal>
+    requires { DeriveGiven first_limits (the_night night) steps (length codes.old) }
+    ensures { Found (the_night night.entry) steps codes.old (plan_told result) codes.new }
 {
     let mut found = [0u16; yard::FIRST_CARS];
-    let needed = derive::needed(lengths, inbound, closed, tracks, &mut found);
+    let needed = derive::needed(night, &mut found);
     if steps < needed {
-        return intake::answer(5, needed, 0);
+        return Err(Refusal::LimitTooLow(needed));
     }
-    let n = inbound.len();
-    blocks::find(lengths, closed, tracks, steps, &mut found[0..n]);
-    derive::settle(room, steps, &found[0..n], codes)
+    let found = &mut found[..night.inbound.len()];
+    blocks::find(night, steps, found);
+    derive::settle(night.room, steps, found, codes)
 }
 
-// Finds the codes of a night and a given number of steps with the fewest passes: they go to the lent buffer, steps and passes into the
-// answer.
-pub fn fewest_passes(
-    lengths: &[u16],
-    inbound: &[u16],
-    closed: bool,
-    counts: Counts,
-    codes: &mut [u16],
-) -> Answer
-    ensures { FindsFewest (night_given lengths.now inbound.now closed counts) counts.steps
-        codes.old result codes.new }
+// Finds the codes of a night and a given number of steps with the fewest passes: they go to the lent buffer, and their steps and passes
+// are answered.
+pub fn fewest_passes(night: Night, steps: usize, codes: &mut [u16]) -> Result<Derived, Refusal>
+    ensures { FindsFewest (the_night night.entry) steps codes.old (plan_told result) codes.new }
 {
-    let refusal = derive::given(
-        intake::first_limits(),
-        lengths,
-        inbound,
-        counts.tracks,
-        counts.room,
-        counts.steps,
-        codes.len(),
-    );
-    if refusal.number != 0 {
-        return refusal;
-    }
-    plan(
-        lengths,
-        inbound,
-        closed,
-        counts.tracks,
-        counts.room,
-        counts.steps,
-        codes,
-    )
+    derive::given(yard::FIRST_LIMITS, night, steps, codes.len())?;
+    plan(night, steps, codes)
 }

@@ -1,4 +1,5 @@
-// The format of a card in numbers: the widths of its edition's fields, and where its lists stand.
+// The format of a card in numbers: the widths of its edition's fields, and where its lists stand. An edition is a number here, as on the card,
+// since the reader tells one that no card has too.
 #![tactic(auto)]
 
 ghost use Rattle.std.specs.Prelude.{◌≡◌};
@@ -6,7 +7,7 @@ ghost use Rattle.yard.specs.Night.{sum};
 ghost use Rattle.yard.specs.Card.{limits_of, head_widths, head_length, card_length, fits_first, edition_for};
 ghost use Rattle.format.specs.Format.{Narrow, Laid, Bounded, places_of};
 
-use yard::{Head, Layout, Limits};
+use yard::{Head, Layout, Limits, Sizes};
 
 // Where the lists of a card begin, and where its last field ends, in bits.
 #[derive(Clone, Copy)]
@@ -18,11 +19,12 @@ pub struct Places {
 }
 
 // The widths of an edition's fields.
+#[tactic(auto, unfolding(yard::specs::Card::layout))]
 pub fn layout_of(edition: usize) -> Layout
     ensures { Laid edition result }
 {
-    if edition == 1 {
-        return Layout {
+    match edition {
+        1 => Layout {
             mark: 0,
             steps: 4,
             tracks: 4,
@@ -30,57 +32,47 @@ pub fn layout_of(edition: usize) -> Layout
             cars: 10,
             trains: 7,
             number: 10,
-        };
-    }
-    Layout {
-        mark: 1,
-        steps: 5,
-        tracks: 5,
-        room: 13,
-        cars: 13,
-        trains: 9,
-        number: 13,
+        },
+        _ => Layout {
+            mark: 1,
+            steps: 5,
+            tracks: 5,
+            room: 13,
+            cars: 13,
+            trains: 9,
+            number: 13,
+        },
     }
 }
 
 // The limits of an edition's counts.
+#[tactic(auto, unfolding(yard::specs::Card::limits_of))]
 pub fn limits_of(edition: usize) -> Limits
     ensures { result ≡ limits_of edition }
 {
-    if edition == 1 {
-        intake::first_limits()
-    } else {
-        intake::limits()
+    match edition {
+        1 => yard::FIRST_LIMITS,
+        _ => yard::LIMITS,
     }
 }
 
 // Whether counts keep to edition 1's limits.
-fn fits_first(cars: usize, trains: usize, tracks: usize, room: usize, steps: usize) -> bool
-    ensures { result ≡ fits_first cars trains tracks room steps }
+fn fits_first(sizes: Sizes) -> bool
+    ensures { result ≡ fits_first sizes.cars sizes.trains sizes.tracks sizes.room sizes.steps }
 {
-    (cars <= yard::FIRST_CARS)
-        & (trains <= yard::FIRST_TRAINS)
-        & (tracks <= yard::FIRST_TRACKS)
-        & (room <= yard::FIRST_ROOM)
-        & (steps <= yard::FIRST_STEPS)
+    sizes.cars <= yard::FIRST_CARS
+        && sizes.trains <= yard::FIRST_TRAINS
+        && sizes.tracks <= yard::FIRST_TRACKS
+        && sizes.room <= yard::FIRST_ROOM
+        && sizes.steps <= yard::FIRST_STEPS
 }
 
 // The edition of a plan with this mark and these counts.
-pub fn edition_for(
-    closed: bool,
-    cars: usize,
-    trains: usize,
-    tracks: usize,
-    room: usize,
-    steps: usize,
-) -> usize
-    ensures { result ≡ edition_for closed cars trains tracks room steps }
+#[tactic(auto, unfolding(yard::specs::Card::edition_for))]
+pub fn edition_for(closed: bool, sizes: Sizes) -> usize
+    ensures { result ≡ edition_for closed sizes.cars sizes.trains sizes.tracks sizes.room sizes.steps }
 {
-    if !closed & fits_first(cars, trains, tracks, room, steps) {
-        1
-    } else {
-        2
-    }
+    if !closed && fits_first(sizes) { 1 } else { 2 }
 }
 
 // The bits of a head.
@@ -92,10 +84,11 @@ fn head_bits(l: Layout) -> usize
 }
 
 // The bytes that a head takes up.
+#[tactic(auto, unfolding(yard::specs::Card::head_length))]
 pub fn head_length(head: Head) -> usize
     ensures { result ≡ head_length head }
 {
-    (head_bits(layout_of(head.edition)) + 7) / 8
+    head_bits(layout_of(head.edition)).div_ceil(8)
 }
 
 // The places on a card with this head.
@@ -116,9 +109,10 @@ pub fn places_of(head: Head) -> Places
 }
 
 // The length of a card with this head in bytes.
+#[tactic(auto, unfolding(yard::specs::Card::card_length), using(crate::proofs::Widths::end_is))]
 pub fn length(head: Head) -> usize
     requires { Bounded head }
     ensures { result ≡ card_length head }
 {
-    (places_of(head).end + 7) / 8
+    places_of(head).end.div_ceil(8)
 }

@@ -1,15 +1,20 @@
--- Laws of text put at the front of a buffer: nothing, a byte, and one piece behind another.
-use Prim.Native.Nat.{ℕ, zero, suc, ◌+◌, ◌-◌, ◌≤◌, ◌<◌}
+-- Laws of text put at the front of a buffer: nothing, as much of a piece as fits, and one piece behind another.
+use Prim.Native.Nat.{ℕ, zero, suc, ◌+◌, ◌-◌, ◌≤◌, min}
 use mathlib.Core.Path.{◌≡◌, refl, sym, ap, ap₂, ◌∙◌}
+use mathlib.Core.Logic.{⊎_elim}
 use mathlib.Core.List.{List, [], ◌∷◌, ◌++◌, append_assoc, append-nil}
-use native.Mathlib.Numerals.{add-one}
 use native.Mathlib.Omega.{arith}
-use lib.ListN.{length, get_or, take, drop, set, length-append, length-take, length-set, take-append-drop}
-use lib.Seq.{length-take-le, take_all, take-suc, take-suc-set, take-append-le, drop-drop, drop-set-lt}
+use lib.ListN.{length, take, drop, length-append, length-take, take-append-drop}
+use lib.Seq.{length-take-le, take_all, take-append-add, drop-drop}
+use borrow.Rule.Slice.PartMut.{put_mid, same_len_mid}
+use Rattle.std.proofs.lemmas.List.{length-drop}
+use Rattle.std.proofs.lemmas.Slice.{take-put_mid, drop-put_mid}
+use Rattle.yard.proofs.general.Numbers.{le-or-lt}
 use Rattle.io.specs.Counts.{IsPrefixLen}
 use Rattle.yard.specs.Answers.{onto}
 use Rattle.yard.proofs.general.Fronts.{front-taken, front-left, front_long}
-use Rattle.lines.specs.Text.{Adds}
+use Rattle.lines.specs.declared.text.Text.{Text}
+use Rattle.lines.specs.Text.{Adds, Grows}
 
 -- what is left off once need not be looked at again
 take-over : (n : ℕ) (l m : List ℕ) → take n (take n l ++ m) ≡ take n (l ++ m)
@@ -26,29 +31,32 @@ adds_none text at w =
       rest = refl;
     }
 
-pub adds-byte : (text : List ℕ) (at x : ℕ) → at < length text → Adds (x ∷ []) text at (at + 1) (set text at x)
-adds-byte text at x w =
-    let whole : take (at + 1) (set text at x) ≡ take at text ++ (x ∷ []) = ap (λ k. take k (set text at x)) (add-one at) ∙ take-suc-set text at x w in
+-- as much of a piece as fits, behind the text
+pub adds-some : (piece text : List ℕ) (at n : ℕ)
+    → at ≤ length text
+    → n ≡ min (length piece) (length text - at)
+    → Adds piece text at (at + n) (put_mid at (at + n - at) text (take n piece))
+adds-some piece text at n w some =
+    let room = length text - at in
+    let few : n ≤ room = omega (arith, some) in
+    let long : length (take n piece) ≡ n = length-take-le n piece (omega (arith, some)) in
+    let there : length (take at text) ≡ at = length-take-le at text w in
+    let span : at + n - at ≡ n = omega arith in
+    let size : length (put_mid at (at + n - at) text (take n piece)) ≡ length text =
+    same_len_mid at (at + n - at) text (take n piece)
+    (omega (arith, long, span, few, length-drop at text, length-take-le (at + n - at) (drop at text) (omega (arith, span, few, length-drop at text)))) in
+    let cut : take n piece ≡ take room piece =
+    ⊎_elim (λ all. take_all n piece (omega (arith, some, all)) ∙ sym (take_all room piece all))
+    (λ more. ap (λ k. take k piece) (omega (arith, some, more)))
+    (le-or-lt (length piece) room) in
     record {
-      size = length-set text at x;
-      within = omega (arith, length-set text at x);
+      size = size;
+      within = omega (arith, few, size);
       text =
-          whole
-          ∙ sym (take_all (length text) (take at text ++ (x ∷ []))
-          (omega (arith, length-append (take at text) (x ∷ []), length-take-le at text (omega arith))));
-      rest = drop-set-lt (at + 1) text at x (omega arith);
-    }
-
--- a full buffer stays as it is
-pub adds-full : (text : List ℕ) (at : ℕ) (piece : List ℕ) → at ≡ length text → Adds piece text at at text
-adds-full text at piece e =
-    let n = length text in
-    let all : length (take at text) ≡ n = length-take-le at text (omega arith) ∙ e in
-    record {
-      size = refl;
-      within = omega arith;
-      text = sym (take-append-le n (take at text) piece (omega (arith, all)) ∙ take_all n (take at text) (omega (arith, all)));
-      rest = refl;
+          take-put_mid at (at + n - at) text (take n piece) (at + n) (omega (arith, long)) w
+          ∙ ap (λ l. take at text ++ l) cut
+          ∙ sym (ap (λ k. take k (take at text ++ piece)) (omega (arith, there)) ∙ take-append-add (take at text) piece room);
+      rest = drop-put_mid at (at + n - at) text (take n piece) (at + n) (omega arith) w (long ∙ sym span);
     }
 
 -- a piece at the front of a buffer that holds it, and behind it what was there
@@ -112,17 +120,16 @@ adds_one {before = before} {after = after} {other = other} {r = r} {s = s} f g =
     let rest : drop r after ≡ drop s other = f.rest ∙ ap (λ k. drop k before) ends ∙ sym g.rest in
     (ends, sym (take-append-drop r after) ∙ ap₂ (λ (t u : List ℕ). t ++ u) text rest ∙ take-append-drop s other)
 
--- a piece of which one item more is added, and the whole piece
-pub adds-next : {x y z : List ℕ} {at end last : ℕ} (piece : List ℕ) (i : ℕ)
-    → i < length piece
-    → Adds (take i piece) x at end y
-    → Adds (get_or piece i 0 ∷ []) y end last z
-    → Adds (take (i + 1) piece) x at last z
-adds-next piece i w f g = adds_same (sym (ap (λ k. take k piece) (add-one i) ∙ take-suc piece i 0 w)) (adds_then f g)
-
-pub adds-all : {x y : List ℕ} {at end : ℕ} (piece : List ℕ) (i : ℕ) → length piece ≤ i → Adds (take i piece) x at end y → Adds piece x at end y
-adds-all piece i w f = adds_same (take_all i piece w) f
-
 -- where the text ends is a count of the buffer's bytes
 pub adds-end : {piece before after : List ℕ} {at r : ℕ} → Adds piece before at r after → Adds piece before at r after × IsPrefixLen r after
 adds-end {after = after} {r = r} f = (f, (f.within, sym (length-take-le r after f.within)))
+
+-- the same of a text in its buffer: no piece, one piece behind another, and the same piece, written another way
+pub grows_none : (text : Text) → Grows [] text text
+grows_none text = record { lender = refl; adds = adds_none text.buffer.now text.end text.within }
+
+pub grows_then : {a b : List ℕ} {x y z : Text} → Grows a x y → Grows b y z → Grows (a ++ b) x z
+grows_then f g = record { lender = g.lender ∙ f.lender; adds = adds_then f.adds g.adds }
+
+pub grows_same : {a b : List ℕ} {x y : Text} → a ≡ b → Grows a x y → Grows b x y
+grows_same e f = record { lender = f.lender; adds = adds_same e f.adds }

@@ -1,5 +1,8 @@
 -- The lines of document 01, in ASCII.
 use Rattle.std.specs.Prelude.{ℕ, zero, suc, List, [], ◌∷◌, ◌++◌}
+use Rattle.std.specs.Prelude.{length}
+use Rattle.yard.specs.declared.Answer.{Answer}
+use Rattle.yard.specs.Night.{Plan}
 use Rattle.lines.specs.Text.{ascii, labelled}
 
 -- refused, number, A and B, set apart by blanks
@@ -16,6 +19,15 @@ counts_line h W C n m passes =
     (labelled " trains " m ++
     (labelled " passes " passes ++
     ascii "\n")))))
+
+-- the same of an answer, and of a plan
+abbrev pub answer_line : Answer → List ℕ
+answer_line r = refusal_line r.number r.a r.b
+
+abbrev pub plan_line : Plan → ℕ → List ℕ
+plan_line p passes =
+    let n = p.night in
+    counts_line p.steps n.tracks n.room (length n.inbound) (length n.lengths) passes
 
 -- cars, each behind a blank, and the line of a train
 abbrev pub car_list : List ℕ → List ℕ

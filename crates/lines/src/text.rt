@@ -1,47 +1,56 @@
-// Pieces of text put at the front of a buffer, one behind the other.
-ghost use Rattle.std.specs.Prelude.{◌∷◌, [], ◌++◌, ◌≤◌, length};
-ghost use Rattle.lines.specs.Text.{Adds, numeral};
+// Text at the front of a buffer, piece behind piece: what does not fit is left off.
+ghost use Rattle.std.specs.Prelude.{◌++◌, ◌≤◌, ◌≡◌, length};
 
-// Adds a byte behind the first ones.
-pub fn byte(text: &mut [u8], at: usize, one: u8) -> usize
-    requires { at ≤ length text.old }
-    ensures { Adds (one ∷ []) text.old at result text.new }
-{
-    if at < text.len() {
-        text[at] = one;
-        at + 1
-    } else {
-        at
+// The buffer, and where the text in it ends.
+#[derive(Drop)]
+pub struct Text<'a> {
+    buffer: &'a mut [u8],
+    end: usize,
+    ghost within: { end ≤ length buffer.now },
+}
+
+impl<'a> Text<'a> {
+    ghost use Rattle.lines.specs.Text.{Starts, Grows, end_of, numeral};
+
+    // No text yet.
+    pub fn new(buffer: &'a mut [u8]) -> Text<'a>
+        ensures { Starts buffer.entry result }
+    {
+        Text { buffer, end: 0 }
     }
-}
 
-// Adds bytes behind the first ones.
-pub fn bytes(text: &mut [u8], at: usize, piece: &[u8]) -> usize
-    requires { at ≤ length text.old }
-    ensures { Adds piece.now text.old at result text.new }
-{
-    let mut end = at;
-    for i in 0..piece.len() {
-        end = byte(text, end, piece[i]);
+    // Where the text ends.
+    pub fn end(&self) -> usize
+        ensures { result ≡ end_of self.now }
+    {
+        self.end
     }
-    end
-}
 
-// Adds a number in decimal.
-pub fn number(text: &mut [u8], at: usize, count: usize) -> usize
-    requires { at ≤ length text.old }
-    ensures { Adds (numeral count) text.old at result text.new }
-{
-    let mut digits = [0u8; 20];
-    let k = io::decimal(count as u64, &mut digits);
-    bytes(text, at, &digits[..k])
-}
+    // Adds bytes.
+    pub(crate) fn bytes(&mut self, piece: &[u8])
+        ensures { Grows piece.now self.old self.new }
+    {
+        let n = piece.len().min(self.buffer.len() - self.end);
+        self.buffer[self.end..self.end + n].copy_from_slice(&piece[..n]);
+        self.end += n;
+    }
 
-// Adds a number behind its label.
-pub fn labelled(text: &mut [u8], at: usize, label: &[u8], count: usize) -> usize
-    requires { at ≤ length text.old }
-    ensures { Adds (label.now ++ numeral count) text.old at result text.new }
-{
-    let end = bytes(text, at, label);
-    number(text, end, count)
+    // Adds a number in decimal.
+    fn number(&mut self, count: usize)
+        ensures { Grows (numeral count) self.old self.new }
+    {
+        let mut digits = [0u8; 20];
+        // Rust has no `From<usize>` for `u64`.
+        let k = io::decimal(count as u64, &mut digits);
+        self.bytes(&digits[..k]);
+    }
+
+    // Adds a number behind its label. A `write!` in its place may fail by its contract, which then says nothing of the text; what puts a
+    // line out can't fail.
+    pub(crate) fn labelled(&mut self, label: &[u8], count: usize)
+        ensures { Grows (label.now ++ numeral count) self.old self.new }
+    {
+        self.bytes(label);
+        self.number(count);
+    }
 }

@@ -1,7 +1,7 @@
 -- Laws of the marks, over any number of words: at first no car is marked, and marking a car as it comes keeps the marks at the cars listed so far.
 use mathlib.Core.Path.{◌≡◌, sym, ap, ap₂, ◌∙◌}
 use mathlib.Core.Logic.{◌⊎◌, inl, inr}
-use mathlib.Core.Bool.{Bool, true, false, ◌||◌, true≢false}
+use mathlib.Core.Bool.{Bool, true, false, not, ◌||◌}
 use mathlib.Core.List.{List, [], ◌∷◌}
 use Prim.Native.Nat.{ℕ, suc, ◌+◌, ◌*◌, ◌/◌, ◌%◌, ◌^◌, ◌≤◌, ◌<◌}
 use native.Mathlib.Nat.{add-zero, mod-lt, mod_self, mod-eq_of_lt, eq-or-lt_of_le, zero-div}
@@ -16,11 +16,11 @@ use borrow.Author.Tests.{lt-ltb, eq-eqb, ne_eqb, eqb-true, eqb-false}
 use Rattle.yard.specs.Words.{tally, count, listed}
 use Rattle.yard.specs.Replay.{bit}
 use Rattle.yard.specs.Answers.{in_range, bad_place, first_bad}
-use Rattle.yard.proofs.general.Bools.{split, same_test}
+use Rattle.yard.proofs.general.Bools.{split, clash, same_test, not-true, not-false}
 use Rattle.yard.proofs.general.Numbers.{le-or-lt}
 use Rattle.yard.proofs.general.Lists.{count-append}
 use Rattle.yard.proofs.yards.Formed.{bad-at}
-use Rattle.scan.proofs.Left.{left-start, place-hits, place-goes, place-ends}
+use Rattle.scan.proofs.Left.{left-start, place-hits, place-goes}
 use Rattle.scan.proofs.Range.{between}
 use Rattle.marks.specs.Marks.{marked, markable, Marks, Sought, Looked}
 use Rattle.marks.proofs.Word.{bit-set, bit-was-set}
@@ -125,35 +125,36 @@ module _ (inbound : List ℕ) where
   nothing-sought n h =
       record { room = omega (arith, markable-fresh n); met = λ x k m. marked-fresh n x; left = left-start (bad_place inbound) (length inbound) 1 }
 
-  -- all places have been looked at
-  pub all-sought : {marks : List ℕ} {i : ℕ} → Sought inbound marks i → length inbound ≤ i → i ≤ length inbound → length inbound + 1 ≡ first_bad inbound
-  all-sought {marks} {i} so = place-ends (bad_place inbound) (length inbound) (first_bad inbound) i so.left
-
-  -- a place is looked at: its car is marked now, and was marked before or not
-  module _ (marks : List ℕ) (i : ℕ) (so : Sought inbound marks i) where
-    abbrev car : ℕ
-    car = get_or inbound i 0
-
-    pub looked : {after : List ℕ} (seen : Bool) → i < length inbound → in_range inbound car ≡ true → seen ≡ marked marks car → Marks marks car after
-        → Looked inbound i seen after
-    looked seen h inside e now =
+  -- a place is looked at, and told to be out of range or not: where it is not, its car is marked now, and was marked before or not
+  module _ (marks : List ℕ) (i : ℕ) (so : Sought inbound marks i) (h : i < length inbound) {out : Bool} (told : out ≡ not (in_range inbound (get_or inbound i 0))) where
+    pub looked : {car : ℕ} {seen : Bool} {after : List ℕ} → out ≡ false → car ≡ get_or inbound i 0 → seen ≡ marked marks car → Marks marks car after → Looked inbound i seen after
+    looked {car} {seen} fits is e now =
         record {
           found = λ t. place-hits (bad_place inbound) (length inbound) (first_bad inbound) i so.left h (again ∙ t);
           on = λ f. record {
             room = omega (arith, now.room, so.room);
-            met = λ x k n. rw (add-one, listed_next x inbound i h, now.now x k (omega (arith, now.room)), so.met x k (omega (arith, now.room)));
+            met =
+                λ x k n.
+                rw (add-one, listed_next x inbound i h, now.now x k (omega (arith, now.room)), so.met x k (omega (arith, now.room)))
+                (ap (λ (y : ℕ). eqb x y || listed x (take i inbound)) is);
             left = place-goes (bad_place inbound) (length inbound) (first_bad inbound) i so.left h (again ∙ f);
           };
         }
       where
+        inside : in_range inbound (get_or inbound i 0) ≡ true
+        inside = not-false (in_range inbound (get_or inbound i 0)) (sym told ∙ fits)
+
         again : bad_place inbound (suc i) ≡ seen
         again =
-            let fit = between 1 car (length inbound) inside in
-            bad-at inbound i ∙ rw inside (sym (e ∙ so.met car fit.0 (omega (arith, fit.1, so.room))))
+            let fit = between 1 (get_or inbound i 0) (length inbound) inside in
+            bad-at inbound i ∙ rw inside (sym (e ∙ ap (marked marks) is ∙ so.met (get_or inbound i 0) fit.0 (omega (arith, fit.1, so.room))))
 
-    pub looked-out : {after : List ℕ} → i < length inbound → in_range inbound car ≡ false → Looked inbound i true after
-    looked-out h out =
+    pub looked-out : {after : List ℕ} → out ≡ true → Looked inbound i out after
+    looked-out told-out =
         record {
-          found = λ t. place-hits (bad_place inbound) (length inbound) (first_bad inbound) i so.left h (bad-at inbound i ∙ rw out);
-          on = λ e. absurd (true≢false e);
+          found =
+              λ t.
+              place-hits (bad_place inbound) (length inbound) (first_bad inbound) i so.left h
+              (bad-at inbound i ∙ rw (not-true (in_range inbound (get_or inbound i 0)) (sym told ∙ told-out)));
+          on = λ e. clash told-out e;
         }

@@ -2,24 +2,27 @@
 use mathlib.Core.Path.{◌≡◌, refl, sym, ap, ◌∙◌}
 use mathlib.Core.Logic.{⊎_elim}
 use mathlib.Core.Bool.{Bool, true, false, not, cond, ◌&&◌}
-use mathlib.Core.List.{List}
+use mathlib.Core.List.{List, [], ◌∷◌, ◌++◌}
 use Prim.Native.Nat.{ℕ, zero, suc, ◌+◌, ◌-◌, ◌≤◌, ◌<◌}
 use native.Mathlib.Nat.{eq-or-lt_of_le}
 use native.Mathlib.Omega.{arith}
 use lib.ListN.{length, get_or, take}
-use borrow.Author.Tests.{eq-eqb, ne_eqb}
+use borrow.Author.Tests.{eq-eqb, ne_eqb, lt-ltb, le-ltb}
+use Rattle.std.specs.Prelude.{None}
 use Rattle.yard.specs.Words.{tally, total, first, up_from}
 use Rattle.yard.specs.Night.{sum, train_of}
+use Rattle.std.specs.declared.ops.Range.{Range}
 use Rattle.yard.specs.Answers.{ruled}
 use Rattle.yard.proofs.general.First.{first-from, first-none, first-hit, first_found, first-fails}
 use Rattle.yard.proofs.yards.Codes.{total-last}
 use Rattle.yard.proofs.yards.Trains.{train-of, train-in}
 use Rattle.yard.proofs.calls.Tests.{item-at}
 use Rattle.yard.proofs.general.Numbers.{le-or-lt}
+use Rattle.scan.specs.Found.{found}
 use Rattle.trains.specs.Walk.{Walked, Ends}
 use Rattle.trains.specs.Turned.{turned}
-use Rattle.trains.proofs.Walk.{train-here}
-use Rattle.pairs.specs.Pairs.{unruled_by, unruled_at, Part, Ordering}
+use Rattle.trains.proofs.Walk.{train-here, Stands, reached, before_it, behind_it}
+use Rattle.pairs.specs.Pairs.{unruled_by, unruled_at, Ordering}
 
 -- the rule by index
 pub by_index : (places codes : List ℕ) (j : ℕ) (b : Bool) → b ≡ ruled (get_or codes (j - 1) 0) (get_or codes j 0) (turned places j)
@@ -63,16 +66,14 @@ module _ (lengths places codes : List ℕ) (o : Ordering lengths places codes) w
   passed-all passed = sym (first-fails (unruled_at lengths places codes) (length codes - 1) 1
       (λ j l h. passed j l (omega arith) (omega (arith, o.some))) ∙ omega (arith, o.some))
 
+  pub none-found : Passed lengths places codes (length codes) →
+      None ≡ found (length codes) (first (unruled_at lengths places codes) (length codes - 1) 1)
+  none-found passed = rw (← passed-all passed, le-ltb (length codes) (length codes) (omega arith)) refl
+
   module _ {t before end : ℕ} (m : t < length lengths) (w : Walked lengths t before) (e : Ends lengths t before end) where
     -- the next train is a part of the cars
-    pub train-part : Part places codes before end
-    train-part =
-        record {
-          some = omega (arith, e.car, item-at lengths t, o.full (suc t) (omega arith, m));
-          upto = omega (arith, e.within, o.all);
-          place = o.place;
-          few = o.few;
-        }
+    pub train-part : (before < end) × (end ≤ length codes)
+    train-part = (omega (arith, e.car, item-at lengths t, o.full (suc t) (omega arith, m)), omega (arith, e.within, o.all))
 
     of-train : (j : ℕ) → before < j → j ≤ end → train_of lengths j ≡ suc t
     of-train j l h = train-here lengths m w e j l h
@@ -110,21 +111,53 @@ module _ (lengths places codes : List ℕ) (o : Ordering lengths places codes) w
         → 0 < total (λ j. tally (unruled_by places codes j)) (up_from (before + 1) (end - (before + 1)))
         → first (unruled_by places codes) (end - (before + 1)) (before + 1) ≡ first (unruled_at lengths places codes) (length codes - 1) 1
     train-found passed some =
-        sym (first_found (unruled_at lengths places codes) (length codes - 1) 1 found (omega (arith, from))
-        (omega (arith, low, train-part.upto, train-part.some))
-        (inner found (omega (arith, from)) (omega (arith, low, train-part.some)) ∙ first-hit (unruled_by places codes) n (before + 1) low)
-        (λ j l h. ⊎_elim (λ under. passed j l under (omega (arith, low, train-part.upto, train-part.some)))
-        (λ over. inner j over (omega (arith, low, train-part.some)) ∙ first-none (unruled_by places codes) n (before + 1) j (omega arith) h)
+        sym (first_found (unruled_at lengths places codes) (length codes - 1) 1 lowest (omega (arith, from))
+        (omega (arith, low, train-part))
+        (inner lowest (omega (arith, from)) (omega (arith, low, train-part)) ∙ first-hit (unruled_by places codes) n (before + 1) low)
+        (λ j l h. ⊎_elim (λ under. passed j l under (omega (arith, low, train-part)))
+        (λ over. inner j over (omega (arith, low, train-part)) ∙ first-none (unruled_by places codes) n (before + 1) j (omega arith) h)
         (le-or-lt j before)))
       where
         n : ℕ
         n = end - (before + 1)
 
-        found : ℕ
-        found = first (unruled_by places codes) n (before + 1)
+        lowest : ℕ
+        lowest = first (unruled_by places codes) n (before + 1)
 
-        low : found < before + 1 + n
+        low : lowest < before + 1 + n
         low = some-passes (unruled_by places codes) n (before + 1) some
 
-        from : before + 1 ≤ found
+        from : before + 1 ≤ lowest
         from = first-from (unruled_by places codes) n (before + 1)
+
+    pub lowest-found : Passed lengths places codes before
+        → 0 < total (λ j. tally (unruled_by places codes j)) (up_from (before + 1) (end - (before + 1)))
+        → found end (first (unruled_by places codes) (end - (before + 1)) (before + 1))
+        ≡ found (length codes) (first (unruled_at lengths places codes) (length codes - 1) 1)
+    lowest-found passed some =
+        let lowest : ℕ = first (unruled_by places codes) (end - (before + 1)) (before + 1) in
+        let within = some-passes (unruled_by places codes) (end - (before + 1)) (before + 1) some in
+        rw
+        (← train-found passed some, lt-ltb lowest end (omega (arith, within, train-part)), lt-ltb lowest (length codes) (omega (arith, within, train-part)))
+        refl
+
+-- where all trains are passed
+pub all-passed : (lengths places codes : List ℕ) (o : Ordering lengths places codes) {end : ℕ} → end ≡ sum lengths → Passed lengths places codes end →
+    None ≡ found (length codes) (first (unruled_at lengths places codes) (length codes - 1) 1)
+all-passed lengths places codes o all passed = none-found lengths places codes o (rw (all ∙ o.all) at passed)
+
+-- the same of a walk over the trains, which stands at a train behind those passed
+module _ (lengths places codes : List ℕ) (o : Ordering lengths places codes) {passed : List (Range ℕ)} {train : Range ℕ} (stands : Stands lengths passed train)
+    (none : Passed lengths places codes (reached lengths passed)) where
+  held : Passed lengths places codes train.start
+  held = before_it stands (Passed lengths places codes) none
+
+  pub stands-passed : total (λ j. tally (unruled_by places codes j)) (up_from (train.start + 1) (train.end - (train.start + 1))) ≡ 0 →
+      Passed lengths places codes (reached lengths (passed ++ train ∷ []))
+  stands-passed e =
+      behind_it stands train (λ t before. Passed lengths places codes before) (train-passed lengths places codes o stands.more stands.walked stands.ends held e)
+
+  pub stands-found : 0 < total (λ j. tally (unruled_by places codes j)) (up_from (train.start + 1) (train.end - (train.start + 1)))
+      → found train.end (first (unruled_by places codes) (train.end - (train.start + 1)) (train.start + 1))
+      ≡ found (length codes) (first (unruled_at lengths places codes) (length codes - 1) 1)
+  stands-found some = lowest-found lengths places codes o stands.more stands.walked stands.ends held some

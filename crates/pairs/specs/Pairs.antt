@@ -1,5 +1,5 @@
 -- The rule on neighbouring pairs, by the lists of places and codes in car order.
-use Rattle.std.specs.Prelude.{ℕ, suc, ◌≤◌, ◌<◌, ◌≡◌, Bool, not, ◌&&◌, List, length}
+use Rattle.std.specs.Prelude.{ℕ, suc, ◌≤◌, ◌≡◌, Bool, not, ◌&&◌, List, length}
 use Rattle.yard.specs.Limits.{limits}
 use Rattle.yard.specs.Night.{sum, item_of, pair}
 use Rattle.yard.specs.Answers.{ruled}
@@ -13,13 +13,6 @@ unruled_by places codes j = not (ruled (item_of codes j) (item_of codes (suc j))
 -- and they are such a pair
 abbrev pub unruled_at : List ℕ → List ℕ → List ℕ → ℕ → Bool
 unruled_at lengths places codes j = pair lengths j && unruled_by places codes j
-
--- a part of the cars, behind the first ones and up to an end
-pub record Part (places codes : List ℕ) (before end : ℕ) : Type 0 where
-  pub some : before < end
-  pub upto : end ≤ length codes
-  pub place : length places ≡ length codes
-  pub few : length codes ≤ limits.cars
 
 -- trains that hold all cars, with a place and a code for each
 pub record Ordering (lengths places codes : List ℕ) : Type 0 where

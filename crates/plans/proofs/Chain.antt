@@ -1,7 +1,7 @@
 -- Check, from test to test: what the call has learnt so far, and what its answer then is.
-use mathlib.Core.Path.{◌≡◌, sym, ap, ◌∙◌}
+use mathlib.Core.Path.{◌≡◌, sym, ap, ap₂, ◌∙◌}
 use mathlib.Core.List.{List, [], ◌∷◌, ◌++◌}
-use Prim.Native.Nat.{◌+◌}
+use Prim.Native.Nat.{ℕ, ◌+◌}
 use lib.Dec.{eqb}
 use lib.ListN.{length}
 use borrow.Author.Tests.{eqb-true}
@@ -38,6 +38,11 @@ module _ (p : Plan) where
 
   abbrev pub Counts : Type 0
   Counts = InLimits limits (length p.night.inbound) (length p.night.lengths) p.night.tracks p.night.room p.steps
+
+  -- what the tests of the codes said of the plan's pulls they say of the plan
+  pub sound-of : {h : ℕ} {codes : List ℕ} {r : Answer} → codes ≡ p.codes → h ≡ p.steps →
+      Tested (sound_tests p.night.closed p.night.tracks p.night.room h codes) r → Tested sound r
+  sound-of c e is = is ∙ ap₂ (λ (h : ℕ) (l : List ℕ). verdict (sound_tests p.night.closed p.night.tracks p.night.room h l) (says 0 0 0)) e c
 
   -- what is known once the counts have passed, and once the lists have
   pub counts-passed : {r : Answer} → Tested (night_counts limits p.night p.steps) r → r.number ≡ 0 → Counts

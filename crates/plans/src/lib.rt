@@ -3,208 +3,148 @@
 
 ghost use Rattle.std.specs.Prelude.{◌≡◌, ◌∷◌, [], ◌+◌, ◌≤◌, length};
 ghost use Rattle.yard.specs.Limits.{limits};
-ghost use Rattle.yard.specs.Night.{plan_given};
+ghost use Rattle.yard.specs.Lent.{the_plan};
 ghost use Rattle.yard.specs.Answers.{says, verdict};
-ghost use Rattle.yard.specs.Calls.{count_tests, Checks, Replays};
+ghost use Rattle.yard.specs.Calls.{Checks, Replays};
 ghost use Rattle.yard.specs.Demands.{Listed};
+ghost use Rattle.yard.specs.Refusals.{test_told, check_told, count_told};
+ghost use Rattle.scan.specs.Found.{found};
 ghost use Rattle.sorting.specs.Sums.{set_below, fullest_of};
 ghost use Rattle.plans.specs.Worked.{given_tests, first_pair, pair_test, Counted, placed_tests, Placeable, Placed};
 
-use yard::{Answer, Counts};
-
-// 1: the counts of a plan.
-fn counted(cars: usize, trains: usize, counts: Counts) -> Answer
-    ensures { result ≡ verdict (count_tests limits cars trains counts.tracks counts.room counts.steps) (says 0 0 0) }
-{
-    intake::counts(
-        intake::limits(),
-        cars,
-        trains,
-        counts.tracks,
-        counts.room,
-        counts.steps,
-    )
-}
+use sorting::Pulls;
+use yard::{Checked, CountName, ListName, Plan, Refusal};
 
 // 2, 3 and 4: the lists of a plan.
-fn given(lengths: &[u16], inbound: &[u16], codes: &[u16]) -> Answer
-    requires { (length lengths.now ≤ limits.trains) × (length inbound.now ≤ limits.cars) }
-    ensures { result ≡ verdict (given_tests lengths.now inbound.now codes.now) (says 0 0 0) }
+fn given(plan: Plan) -> Result<(), Refusal>
+    requires { (length plan.night.lengths.now ≤ limits.trains) × (length plan.night.inbound.now ≤ limits.cars) }
+    ensures { test_told result ≡ verdict (given_tests plan.entry.night.lengths.now plan.entry.night.inbound.now plan.entry.codes.now)
+        (says 0 0 0) }
 {
-    let each = intake::list(3, codes.len() == inbound.len());
-    intake::unless(lists::lists(lengths, inbound), each)
+    let night = plan.night;
+    lists::lists(night.lengths, night.inbound)?;
+    intake::list(ListName::Codes, plan.codes.len() == night.inbound.len())
 }
 
-// The lowest car that breaks the rule with the next, or the last car where there is none. The places of the cars go to a lent list.
-fn first_pair_with(lengths: &[u16], inbound: &[u16], codes: &[u16], places: &mut [u16]) -> usize
-    requires { Counted lengths.now inbound.now codes.now × Listed lengths.now inbound.now × (length inbound.now ≤ length places.old) }
-    ensures { result ≡ first_pair lengths.now inbound.now codes.now }
-{
-    let n = codes.len();
-    trains::places(inbound, places);
-    pairs::first_unruled(lengths, &places[0..n], codes)
+// A plan whose counts and lists have passed their tests, with one code for each car.
+#[derive(Clone, Copy)]
+struct Formed<'a> {
+    plan: Plan<'a>,
+    ghost counted: { Counted plan.night.lengths.now plan.night.inbound.now plan.codes.now },
+    ghost listed: { Listed plan.night.lengths.now plan.night.inbound.now },
 }
 
-// The same with a list of its own, a short one where it does: to clear a long one would cost a short night more than the rest.
-fn first_pair(lengths: &[u16], inbound: &[u16], codes: &[u16]) -> usize
-    requires { Counted lengths.now inbound.now codes.now × Listed lengths.now inbound.now }
-    ensures { result ≡ first_pair lengths.now inbound.now codes.now }
-{
-    if codes.len() <= yard::FIRST_CARS {
-        let mut few = [0u16; yard::FIRST_CARS];
-        return first_pair_with(lengths, inbound, codes, &mut few);
+impl<'a> Formed<'a> {
+    // The lowest car that breaks the rule with the next. The places of the cars go to a list of N.
+    fn first_pair_by<const N: usize>(self) -> Option<usize>
+        requires { (length self.plan.night.inbound.now ≤ N) × (N ≤ limits.cars) }
+        ensures { result ≡ found (length self.entry.plan.codes.now)
+            (first_pair self.entry.plan.night.lengths.now self.entry.plan.night.inbound.now self.entry.plan.codes.now) }
+    {
+        let night = self.plan.night;
+        let mut places = [0u16; N];
+        let places = &mut places[..];
+        trains::places(night.inbound, places);
+        pairs::first_unruled(
+            night.lengths,
+            &places[..self.plan.codes.len()],
+            self.plan.codes,
+        )
     }
-    let mut many = [0u16; yard::CARS];
-    first_pair_with(lengths, inbound, codes, &mut many)
-}
 
-// 9: the trains in order, or else the lowest second car of a pair that breaks the rule; then the passes and the fullest pull.
-fn ordered(lengths: &[u16], inbound: &[u16], codes: &[u16], fullest: usize, steps: usize) -> Answer
-    requires { Counted lengths.now inbound.now codes.now × Listed lengths.now
-        inbound.now × (steps ≤ limits.steps) × (fullest ≡ fullest_of codes.now steps) }
-    ensures { result ≡ verdict (pair_test lengths.now inbound.now codes.now ∷ [])
-        (says 0 (length codes.now + set_below steps codes.now) (fullest_of codes.now steps)) }
-{
-    let j = first_pair(lengths, inbound, codes);
-    if j < codes.len() {
-        return intake::answer(9, j + 1, 0);
+    // The same with a list that is short where it does: to clear a long one would cost a short night more than the rest.
+    fn first_pair(self) -> Option<usize>
+        ensures { result ≡ found (length self.entry.plan.codes.now)
+            (first_pair self.entry.plan.night.lengths.now self.entry.plan.night.inbound.now self.entry.plan.codes.now) }
+    {
+        if self.plan.codes.len() <= yard::FIRST_CARS {
+            self.first_pair_by::<{ yard::FIRST_CARS }>()
+        } else {
+            self.first_pair_by::<{ yard::CARS }>()
+        }
     }
-    intake::answer(0, sorting::passes(codes, steps), fullest)
+
+    // 9: the trains in order, or else the lowest second car of a pair that breaks the rule; then the passes and the fullest pull.
+    fn ordered(self, pulls: Pulls) -> Result<Checked, Refusal>
+        requires { (pulls.codes.now ≡ self.plan.codes.now) × (pulls.steps ≡ self.plan.steps) }
+        ensures { check_told result ≡ verdict
+            (pair_test self.entry.plan.night.lengths.now self.entry.plan.night.inbound.now self.entry.plan.codes.now ∷ [])
+            (says 0 (length self.entry.plan.codes.now + set_below self.entry.plan.steps self.entry.plan.codes.now)
+            (fullest_of self.entry.plan.codes.now self.entry.plan.steps)) }
+    {
+        if let Some(car) = self.first_pair() {
+            return Err(Refusal::TrainsOutOfOrder(car + 1));
+        }
+        Ok(Checked {
+            passes: pulls.passes(pulls.steps),
+            fullest: pulls.fullest,
+        })
+    }
 }
 
 // A plan is accepted exactly if its lists and codes are well formed and its replay keeps the destinations of a closed night clear until
 // the first pull, pulls no car early, overfills no track and builds every train in order.
-pub fn check(
-    lengths: &[u16],
-    inbound: &[u16],
-    codes: &[u16],
-    closed: bool,
-    counts: Counts,
-) -> Answer
-    ensures { Checks (plan_given lengths.now inbound.now codes.now closed counts) result }
+pub fn check(plan: Plan) -> Result<Checked, Refusal>
+    ensures { Checks (the_plan plan.entry) (check_told result) }
 {
-    let counted = counted(inbound.len(), lengths.len(), counts);
-    if counted.number != 0 {
-        return counted;
-    }
-    let listed = given(lengths, inbound, codes);
-    if listed.number != 0 {
-        return listed;
-    }
-    let fullest = sorting::fullest(codes, counts.steps);
-    let replayed = sound::sound(codes, fullest, closed, counts);
-    if replayed.number != 0 {
-        return replayed;
-    }
-    ordered(lengths, inbound, codes, fullest, counts.steps)
+    intake::night_counts(yard::LIMITS, plan.night, plan.steps)?;
+    given(plan)?;
+    let pulls = Pulls::of(plan.codes, plan.steps);
+    sound::sound(plan.night, pulls)?;
+    Formed { plan }.ordered(pulls)
 }
 
 // 2, 3 and 4: the lists of a plan, and two buffers of these sizes.
-fn placed(lengths: &[u16], inbound: &[u16], codes: &[u16], on: usize, at: usize) -> Answer
-    requires { (length lengths.now ≤ limits.trains) × (length inbound.now ≤ limits.cars) }
-    ensures { result ≡ verdict (placed_tests lengths.now inbound.now codes.now on at) (says 0 0 0) }
+fn placed(plan: Plan, on: usize, at: usize) -> Result<(), Refusal>
+    requires { (length plan.night.lengths.now ≤ limits.trains) × (length plan.night.inbound.now ≤ limits.cars) }
+    ensures { test_told result ≡ verdict
+        (placed_tests plan.entry.night.lengths.now plan.entry.night.inbound.now plan.entry.codes.now on at) (says 0 0 0) }
 {
-    let listed = given(lengths, inbound, codes);
-    if listed.number != 0 {
-        return listed;
-    }
-    let tracks = intake::list(4, inbound.len() <= on);
-    if tracks.number != 0 {
-        return tracks;
-    }
-    intake::list(5, inbound.len() <= at)
+    given(plan)?;
+    let cars = plan.night.inbound.len();
+    intake::list(ListName::Tracks, cars <= on)?;
+    intake::list(ListName::Places, cars <= at)
 }
 
-// Each car's track and place at a stage, written into the two buffers. The cars are ordered in a lent list.
-fn stand_with(
-    lengths: &[u16],
-    inbound: &[u16],
-    codes: &[u16],
-    tracks: usize,
-    steps: usize,
-    stage: usize,
-    order: &mut [u16],
-    on: &mut [u16],
-    at: &mut [u16],
-)
-    requires { Placeable lengths.now inbound.now codes.now tracks steps stage on.old at.old × (length inbound.now ≤ length order.old) }
-    ensures { Placed lengths.now inbound.now codes.now tracks steps stage
-        on.old at.old on.new at.new }
+// Each car's track and place at a stage, written into the two buffers. The cars are ordered in a list of N.
+fn stand_by<const N: usize>(plan: Plan, stage: usize, on: &mut [u16], at: &mut [u16])
+    requires { Placeable plan.night.lengths.now plan.night.inbound.now plan.codes.now plan.night.tracks plan.steps stage on.old at.old
+        × (length plan.night.inbound.now ≤ N) × (N ≤ limits.cars) }
+    ensures { Placed plan.entry.night.lengths.now plan.entry.night.inbound.now plan.entry.codes.now plan.entry.night.tracks
+        plan.entry.steps stage on.old at.old on.new at.new }
 {
-    let n = inbound.len();
-    order::sort(inbound, codes, stage, &mut order[0..n]);
-    stage::tracks(lengths, codes, tracks, steps, stage, on);
-    stage::places(&order[0..n], on, tracks + lengths.len(), at);
+    let night = plan.night;
+    let mut list = [0u16; N];
+    let list = &mut list[..];
+    let order = &mut list[..night.inbound.len()];
+    order::sort(night.inbound, plan.codes, stage, order);
+    stage::tracks(plan, stage, on);
+    stage::places(order, on, night.tracks + night.lengths.len(), at);
 }
 
-// The same with a list of its own, a short one where it does.
-fn stand(
-    lengths: &[u16],
-    inbound: &[u16],
-    codes: &[u16],
-    tracks: usize,
-    steps: usize,
-    stage: usize,
-    on: &mut [u16],
-    at: &mut [u16],
-)
-    requires { Placeable lengths.now inbound.now codes.now tracks steps stage on.old at.old }
-    ensures { Placed lengths.now inbound.now codes.now tracks steps stage
-        on.old at.old on.new at.new }
+// The same with a list that is short where it does.
+fn stand(plan: Plan, stage: usize, on: &mut [u16], at: &mut [u16])
+    requires { Placeable plan.night.lengths.now plan.night.inbound.now plan.codes.now plan.night.tracks plan.steps stage on.old at.old }
+    ensures { Placed plan.entry.night.lengths.now plan.entry.night.inbound.now plan.entry.codes.now plan.entry.night.tracks
+        plan.entry.steps stage on.old at.old on.new at.new }
 {
-    if inbound.len() <= yard::FIRST_CARS {
-        let mut few = [0u16; yard::FIRST_CARS];
-        stand_with(
-            lengths, inbound, codes, tracks, steps, stage, &mut few, on, at,
-        );
-        return;
+    if plan.night.inbound.len() <= yard::FIRST_CARS {
+        stand_by::<{ yard::FIRST_CARS }>(plan, stage, on, at);
+    } else {
+        stand_by::<{ yard::CARS }>(plan, stage, on, at);
     }
-    let mut many = [0u16; yard::CARS];
-    stand_with(
-        lengths, inbound, codes, tracks, steps, stage, &mut many, on, at,
-    );
 }
 
 // Where each car of a plan stands at a stage, and the passes up to there; the buffers are written only where the replay is good.
-pub fn replay(
-    lengths: &[u16],
-    inbound: &[u16],
-    codes: &[u16],
-    closed: bool,
-    counts: Counts,
-    stage: usize,
-    on: &mut [u16],
-    at: &mut [u16],
-) -> Answer
-    ensures { Replays (plan_given lengths.now inbound.now codes.now closed counts) stage on.old
-        at.old result on.new at.new }
+pub fn replay(plan: Plan, stage: usize, on: &mut [u16], at: &mut [u16]) -> Result<usize, Refusal>
+    ensures { Replays (the_plan plan.entry) stage on.old at.old (count_told result) on.new at.new }
 {
-    let counted = counted(inbound.len(), lengths.len(), counts);
-    if counted.number != 0 {
-        return counted;
-    }
-    let staged = intake::in_range(6, 0, counts.steps, stage);
-    if staged.number != 0 {
-        return staged;
-    }
-    let listed = placed(lengths, inbound, codes, on.len(), at.len());
-    if listed.number != 0 {
-        return listed;
-    }
-    let fullest = sorting::fullest(codes, counts.steps);
-    let checked = sound::sound(codes, fullest, closed, counts);
-    if checked.number != 0 {
-        return checked;
-    }
-    stand(
-        lengths,
-        inbound,
-        codes,
-        counts.tracks,
-        counts.steps,
-        stage,
-        on,
-        at,
-    );
-    intake::answer(0, sorting::passes(codes, stage), 0)
+    let night = plan.night;
+    intake::night_counts(yard::LIMITS, night, plan.steps)?;
+    intake::in_range(CountName::Stage, 0, plan.steps, stage)?;
+    placed(plan, on.len(), at.len())?;
+    let pulls = Pulls::of(plan.codes, plan.steps);
+    sound::sound(night, pulls)?;
+    stand(plan, stage, on, at);
+    Ok(pulls.passes(stage))
 }

@@ -1,2 +1,3 @@
 -- Laws that the proofs of several functions cite.
 mod ThereAndBack
+mod Told

@@ -8,9 +8,9 @@ use lib.Ieee.Exact.{HasValue}
 use lib.Ieee.Back.{round_whole, unsigned_back}
 use lib.Ieee.Bits.{of_bits-to_bits}
 use Rattle.yard.specs.Price.{seconds, sixteenths, timing}
-use Rattle.yard.proofs.prices.Price.{sixteen, sixteen-times, seconds-fits, seconds-worth, seconds-timing, timing-seconds, timing-most}
+use Rattle.yard.proofs.prices.Price.{seconds-value, sixteen, sixteen-times, seconds-fits, seconds-worth, seconds-timing, timing-seconds, timing-most}
 use Rattle.yard.proofs.general.Bools.{not_so}
-use Rattle.yard.proofs.prices.PriceDoubles.{lt-values}
+use Rattle.yard.proofs.prices.PriceDoubles.{lt-values, value-number}
 
 abbrev pub scaled : Float → Float
 scaled x = mul binary64 x sixteen
@@ -33,6 +33,16 @@ between-cut (fin false m e) b =
 
 pub between-few : (y : Float) → Between y → to_unsigned 64 y < 2 ^ 53
 between-few y b = lt_of_le_of_lt (between-cut y b).1 (lit< tt)
+
+-- the two tests before the cut
+pub between : (x : Float) → lt (fin true 1 (pos 0)) (scaled x) ≡ true → lt (scaled x) (fin false 65537 (pos 0)) ≡ true → Between (scaled x)
+between x low high = record { low = low; high = high }
+
+pub few-cut : {k : ℕ} (x : Float) → k ≡ to_unsigned 64 (scaled x) → Between (scaled x) → k < 2 ^ 53
+few-cut x cut b = subst⁻¹ (λ (k : ℕ). k < 2 ^ 53) cut (between-few (scaled x) b)
+
+pub seconds-number : {y : Float} (k : ℕ) → y ≡ seconds k → k < 2 ^ 53 → T (not (is_nan y))
+seconds-number k worth few = subst⁻¹ (λ (y : Float). T (not (is_nan y))) worth (value-number (seconds k) false k 16 (seconds-value k few))
 
 pub scaled-number : (x : Float) → Between (scaled x) → T (not (is_nan x))
 unfolding lt mul is_nan

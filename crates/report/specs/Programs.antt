@@ -1,13 +1,19 @@
 -- What the two programs put out for a card.
-use Rattle.std.specs.Prelude.{ℕ, Bool, true, false, cond, List, ◌++◌, leb, eqb, length}
+use Rattle.std.specs.Prelude.{ℕ, ◌≡◌, cond, List, ◌++◌, leb, eqb, length, Result, Ok, Err}
 use Rattle.yard.specs.declared.Answer.{Answer}
+use Rattle.yard.specs.declared.Plan.{Plan as LentPlan}
+use Rattle.yard.specs.declared.refusal.Refusal.{Refusal}
+use Rattle.yard.specs.Answers.{says}
+use Rattle.yard.specs.Refusals.{refused}
+use Rattle.yard.specs.Lent.{the_plan}
 use Rattle.yard.specs.Limits.{limits}
 use Rattle.yard.specs.Night.{Night, Plan}
 use Rattle.yard.specs.Replay.{built}
 use Rattle.yard.specs.Derived.{derived_plan}
 use Rattle.yard.specs.Calls.{check_answer, derive_answer}
 use Rattle.yard.specs.Card.{card, card_plan, reader_verdict}
-use Rattle.lines.specs.Lines.{refusal_line, counts_line, train_line, each_to}
+use Rattle.lines.specs.Text.{Adds}
+use Rattle.lines.specs.Lines.{refusal_line, answer_line, counts_line, train_line, each_to}
 
 -- the bytes of a program's buffers: no card and no text is longer
 abbrev pub buffer_size : ℕ
@@ -59,7 +65,12 @@ card_in size p = cond (leb (length (card p)) size) (card p) (refusal_line 4 6 0)
 unfoldable pub nightplan_in : ℕ → List ℕ → List ℕ
 nightplan_in size bytes = of_card (λ p. of_derived (card_in size) p.night) bytes
 
--- both at once, as one function of the code has it: the plan derived anew, or checked as it is
-abbrev pub out_of : Bool → ℕ → Plan → List ℕ
-out_of true size p = of_derived (card_in size) p.night
-out_of false size p = checked_lines p
+-- a card is read: its plan is in hand, or the reader refuses it
+abbrev pub ReadsPlan : List ℕ → Result LentPlan Refusal → Type 0
+ReadsPlan bytes (Ok plan) = (read_as bytes ≡ says 0 0 0) × (the_plan plan ≡ card_plan bytes)
+ReadsPlan bytes (Err e) = read_as bytes ≡ refused e
+
+-- a text is put out, or is the line of a refusal, for which the buffer is as it was
+abbrev pub PutsOut : List ℕ → List ℕ → Result ℕ Refusal → List ℕ → Type 0
+PutsOut text before (Ok end) after = Adds text before 0 end after
+PutsOut text before (Err e) after = (text ≡ answer_line (refused e)) × (after ≡ before)

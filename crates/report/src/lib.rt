@@ -2,14 +2,19 @@
 #![tactic(auto)]
 
 mod edge; // edge.rt: the programs' reading and writing
+mod reading; // reading.rt: the lists of a card, as they are read
 
 ghost use Rattle.std.specs.Prelude.{length};
 ghost use Rattle.io.specs.Counts.{IsPrefixLen};
-ghost use Rattle.yard.specs.Night.{night_of, plan_given};
+ghost use Rattle.yard.specs.Refusals.{refused};
 ghost use Rattle.lines.specs.Text.{Adds};
-ghost use Rattle.report.specs.Programs.{checked_lines, of_derived, card_in, out_of, of_card, nightcard_text, nightplan_in};
+ghost use Rattle.lines.specs.Lines.{answer_line};
+ghost use Rattle.report.specs.Programs.{PutsOut, nightcard_text, nightplan_in};
 
-pub use edge::{Taken, input, said};
+pub use edge::run;
+use lines::Text;
+use reading::Lists;
+use yard::{Plan, Refusal};
 
 // The bytes of a program's buffers; it is `buffer_size` (specs/Programs.antt).
 pub const BUFFER: usize = 24576;
@@ -20,7 +25,10 @@ pub fn nightcard(card: &[u8], text: &mut [u8]) -> usize
     ensures adds { Adds (nightcard_text card.now) text.old 0 result text.new }
     ensures prefix_len { IsPrefixLen result text.new }
 {
-    put_out(card, text, false)
+    match checked(card, text) {
+        Ok(end) => end,
+        Err(refusal) => refused(refusal, text),
+    }
 }
 
 // What nightplan writes for a card, and where it ends: in a buffer of 24,576 bytes the whole of the
@@ -29,98 +37,51 @@ pub fn nightplan(card: &[u8], out: &mut [u8]) -> usize
     ensures adds { Adds (nightplan_in (length out.old) card.now) out.old 0 result out.new }
     ensures prefix_len { IsPrefixLen result out.new }
 {
-    put_out(card, out, true)
+    match derived(card, out) {
+        Ok(end) => end,
+        Err(refusal) => refused(refusal, out),
+    }
 }
 
-// Reads a card, and puts out its plan: derived anew, or checked as it is.
-fn put_out(card: &[u8], out: &mut [u8], anew: bool) -> usize
-    ensures adds { Adds (of_card (out_of anew (length out.old)) card.now) out.old 0 result out.new }
-    ensures prefix_len { IsPrefixLen result out.new }
+// The lines of the card's plan: its counts, and its trains as the replay built them, which are in order (`trains-built` in
+// proofs/Programs.antt), unless the reader or check refuses.
+fn checked(card: &[u8], text: &mut [u8]) -> Result<usize, Refusal>
+    ensures { PutsOut (nightcard_text card.now) text.old result text.new }
 {
-    let mut lengths = [0u16; yard::TRAINS];
-    let mut inbound = [0u16; yard::CARS];
-    let mut codes = [0u16; yard::CARS];
-    let read = card::read(card, &mut lengths, &mut inbound, &mut codes);
-    if read.number != 0 {
-        return lines::refusal(out, read.number, read.a, read.b);
-    }
-    let m = read.trains;
-    let n = read.cars;
-    let trains = &lengths[0..m];
-    let order = &inbound[0..n];
-    if anew {
-        return derived(trains, order, read.mark != 0, read.tracks, read.room, out);
-    }
-    let counts = yard::Counts {
-        tracks: read.tracks,
-        room: read.room,
-        steps: read.steps,
-    };
-    plan(out, trains, order, &codes[0..n], read.mark != 0, counts)
+    let mut lists = Lists::new();
+    let plan = lists.read(card)?;
+    let passes = plans::check(plan)?.passes;
+    let mut text = Text::new(text);
+    lines::counts(&mut text, plan, passes);
+    lines::trains(&mut text, plan.night.lengths);
+    Ok(text.end())
 }
 
-// The lines of a plan: refused by check, or its counts and its trains as the replay built them, which
-// are in order (`trains-built` in proofs/Programs.antt).
-fn plan(
-    text: &mut [u8],
-    lengths: &[u16],
-    inbound: &[u16],
-    codes: &[u16],
-    closed: bool,
-    counts: yard::Counts,
-) -> usize
-    ensures { Adds (checked_lines (plan_given lengths.now inbound.now codes.now closed counts))
-        text.old 0 result text.new }
+// The card of the plan that is derived for the card's night with the largest limit, unless the reader, derive or the writer refuses,
+// the last where the buffer is too short.
+fn derived(card: &[u8], out: &mut [u8]) -> Result<usize, Refusal>
+    ensures { PutsOut (nightplan_in (length out.old) card.now) out.old result out.new }
 {
-    let checked = plans::check(lengths, inbound, codes, closed, counts);
-    if checked.number != 0 {
-        return lines::refusal(text, checked.number, checked.a, checked.b);
-    }
-    let n = inbound.len();
-    let end = lines::counts(
-        text,
-        counts.steps,
-        counts.tracks,
-        counts.room,
-        n,
-        lengths.len(),
-        checked.a,
-    );
-    lines::trains(text, end, lengths)
+    let mut lists = Lists::new();
+    let night = lists.read(card)?.night;
+    let mut codes = [0; yard::CARS];
+    let steps = derive::derive(night, yard::STEPS, &mut codes)?.steps;
+    let codes = &codes[..night.inbound.len()];
+    card::write(
+        Plan {
+            night,
+            steps,
+            codes,
+        },
+        out,
+    )
 }
 
-// The card of the plan that is derived for a night with the largest limit, or the refusal: derive's, or the
-// writer's where the buffer is too short.
-fn derived(
-    lengths: &[u16],
-    inbound: &[u16],
-    closed: bool,
-    tracks: usize,
-    room: usize,
-    out: &mut [u8],
-) -> usize
-    ensures { Adds (of_derived (card_in (length out.old)) (night_of lengths.now inbound.now closed tracks room))
-        out.old 0 result out.new }
+// The line of a refusal, and where it ends.
+fn refused(refusal: Refusal, out: &mut [u8]) -> usize
+    ensures { Adds (answer_line (refused refusal)) out.old 0 result out.new }
 {
-    let mut codes = [0u16; yard::CARS];
-    let asked = yard::Counts {
-        tracks,
-        room,
-        steps: yard::STEPS,
-    };
-    let found = derive::derive(lengths, inbound, closed, asked, &mut codes);
-    if found.number != 0 {
-        return lines::refusal(out, found.number, found.a, found.b);
-    }
-    let n = inbound.len();
-    let counts = yard::Counts {
-        tracks,
-        room,
-        steps: found.a,
-    };
-    let drawn = card::write(lengths, inbound, &codes[0..n], closed, counts, out);
-    if drawn.number != 0 {
-        return lines::refusal(out, drawn.number, drawn.a, drawn.b);
-    }
-    drawn.a
+    let mut text = Text::new(out);
+    lines::refusal(&mut text, refusal);
+    text.end()
 }

@@ -2,4 +2,7 @@
 pub mod Range
 pub mod Running
 pub mod Left
+pub mod Folds
+pub mod Found
+pub mod Positions
 pub mod Front

@@ -1,4 +1,4 @@
--- Laws of a sum, a largest item or a test of all items over what is left of a list, or over the first of it and one item more.
+-- Laws of a sum or a test of all items over what is left of a list, and of a sum and a largest item over the first of it and one item more.
 use mathlib.Core.Path.{◌≡◌, refl, sym, ap, ◌∙◌}
 use mathlib.Core.Bool.{Bool, true, false, ◌&&◌, and_assoc, and-true}
 use mathlib.Core.List.{List, [], ◌∷◌}
@@ -6,6 +6,7 @@ use Prim.Native.Nat.{ℕ, zero, suc, ◌+◌, max, ◌≤◌, ◌<◌}
 use native.Mathlib.Nat.{add-zero, zero-add, add-suc, suc-add}
 use native.Mathlib.Omega.{arith}
 use native.Mathlib.Numerals.{add-one}
+use mir.Val.{bool_byte}
 use lib.ListN.{length, get_or, take, drop, drop_of_length-le}
 use lib.Seq.{take-suc, drop-cons}
 use Rattle.yard.specs.Words.{tally, total, most, every, up_from}
@@ -19,13 +20,6 @@ total-next f l i m = rw (add-one, drop-cons l i 0) refl
 
 pub total-end : (f : ℕ → ℕ) (l : List ℕ) (i : ℕ) → length l ≤ i → total f (drop i l) ≡ 0
 total-end f l i m = ap (λ (u : List ℕ). total f u) (drop_of_length-le l m)
-
-pub largest-next : (l : List ℕ) (i : ℕ) → i < length l →
-    most (λ x. x) (drop i l) ≡ max (get_or l i 0) (most (λ x. x) (drop (i + 1) l))
-largest-next l i m = rw (add-one, drop-cons l i 0) refl
-
-pub largest-end : (l : List ℕ) (i : ℕ) → length l ≤ i → most (λ x. x) (drop i l) ≡ 0
-largest-end l i m = ap (λ (u : List ℕ). most (λ x. x) u) (drop_of_length-le l m)
 
 -- all items passed pass the test, and all that are left, exactly if all do: one item more, and where nothing is left
 module _ (p : ℕ → Bool) (l : List ℕ) (i : ℕ) (all whole : Bool) (left : (all && every p (drop i l)) ≡ whole) where
@@ -66,3 +60,8 @@ most-next f n = rw add-one (most-suc f n 0 ∙ ap (λ (k : ℕ). max (most f (up
 pub tally-most : (b : Bool) → tally b ≤ 1
 tally-most true = omega arith
 tally-most false = omega arith
+
+-- what a test is as a number is how often it counts
+pub byte-tally : (b : Bool) → bool_byte b ≡ tally b
+byte-tally true = refl
+byte-tally false = refl

@@ -8,12 +8,13 @@ use native.Mathlib.Numerals.{add-one}
 use native.Mathlib.Omega.{arith}
 use lib.ListN.{length, get_or}
 use borrow.Author.Tests.{le-leb, lt-leb}
+use Rattle.std.proofs.Common.{Option, Some, None}
 use Rattle.yard.specs.Words.{first}
 use Rattle.yard.specs.Night.{item_of}
 use Rattle.yard.proofs.general.First.{first-hits, first_goes, first_ends}
 use Rattle.yard.proofs.calls.Tests.{item-at}
 use Rattle.yard.specs.Waiting.{waits, lowest_waiting, some_waits, first_waiting}
-use Rattle.sorting.specs.declared.early.Early.TheVariants.{At, Never}
+use Rattle.sorting.specs.declared.early.EarlyPull.{EarlyPull}
 use Rattle.sorting.specs.Early.{early_found}
 
 module _ (W h : ℕ) (codes : List ℕ) where
@@ -42,18 +43,24 @@ module _ (W h : ℕ) (codes : List ℕ) where
       (lt-leb (lowest_waiting W h codes step) (length codes)
       (omega (arith, cars, first_ends (λ car. waits W h (item_of codes car) step) (length codes) i (i + 1) m)))) ∙ left
 
-  pub steps-ends : (step : ℕ) → h ≤ step → StepsLeft step → Never ≡ early_found W h codes
+  -- the search finds the first step at which a car waits, and its lowest such car, or nothing
+  abbrev at : ℕ → ℕ → Option EarlyPull
+  at step car = Some (record { step = step; car = car })
+
+  abbrev found_where : Bool → Option EarlyPull
+  found_where b = cond b None (at (first_waiting W h codes) (lowest_waiting W h codes (first_waiting W h codes)))
+
+  pub steps-ends : (step : ℕ) → h ≤ step → StepsLeft step → None ≡ early_found W h codes
   steps-ends step l left =
-      sym (ap (λ (b : Bool). cond b Never (At (first_waiting W h codes) (lowest_waiting W h codes (first_waiting W h codes))))
+      sym (ap found_where
       (le-leb h (first_waiting W h codes) (omega (arith, left, first_ends (some_waits W h codes) h step step l))))
 
   pub found : (step i : ℕ) → step < h → i < length codes → StepsLeft step → CarsLeft step i → waits W h (get_or codes i 0) step ≡ true
-      → At step (i + 1) ≡ early_found W h codes
+      → Some (record { step = step; car = i + 1 }) ≡ early_found W h codes
   found step i l m left cars e =
       let car : i + 1 ≡ lowest_waiting W h codes step =
       sym (first-hits (λ c. waits W h (item_of codes c) step) (length codes) i (i + 1) m (item step i true e)) ∙ cars in
-      let at : step ≡ first_waiting W h codes =
+      let first_step : step ≡ first_waiting W h codes =
       sym (first-hits (some_waits W h codes) h step step l (le-leb (lowest_waiting W h codes step) (length codes) (omega arith))) ∙ left in
-      ap₂ (λ (k c : ℕ). At k c) at (car ∙ ap (λ (k : ℕ). lowest_waiting W h codes k) at) ∙
-      sym (ap (λ (b : Bool). cond b Never (At (first_waiting W h codes) (lowest_waiting W h codes (first_waiting W h codes))))
-      (lt-leb h (first_waiting W h codes) (omega arith)))
+      ap₂ at first_step (car ∙ ap (λ (k : ℕ). lowest_waiting W h codes k) first_step) ∙
+      sym (ap found_where (lt-leb h (first_waiting W h codes) (omega arith)))

@@ -3,14 +3,7 @@ use Rattle.std.specs.Prelude.{ℕ, List, leb}
 use Rattle.yard.specs.declared.Answer.{Answer}
 use Rattle.yard.specs.Answers.{says, test}
 use Rattle.yard.specs.Waiting.{first_waiting, lowest_waiting}
-use Rattle.sorting.specs.declared.early.Early.{Early}
-use Rattle.sorting.specs.declared.early.Early.TheVariants.{At, Never}
 use Rattle.sorting.specs.Sums.{pull_of, first_above}
-
--- what the yard is told of the first early pull
-abbrev pub early_answer : Early → Answer
-early_answer (At step car) = says 8 car step
-early_answer Never = says 0 0 0
 
 -- 8: the first step at which a car waits on the track of a step that its code does not name
 abbrev pub wait_test : ℕ → ℕ → List ℕ → Answer

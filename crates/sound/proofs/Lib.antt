@@ -1,4 +1,3 @@
 -- Laws that the proofs of this crate cite, and in `Replayed` what its callers need.
-pub mod Worked
 pub mod Usable
 pub mod Replayed

@@ -1,71 +1,61 @@
 // The tests of a plan's replay that its codes alone can break, worked out from the codes.
 #![tactic(auto)]
 
-ghost use Rattle.std.specs.Prelude.{◌≡◌, ◌≤◌, ◌<◌, length};
+ghost use Rattle.std.specs.Prelude.{◌≡◌, ◌≤◌, ◌<◌};
 ghost use Rattle.yard.specs.Limits.{limits};
 ghost use Rattle.yard.specs.Answers.{says, verdict};
 ghost use Rattle.yard.specs.Demands.{CodesBelow};
-ghost use Rattle.sorting.specs.Early.{early_found};
-ghost use Rattle.sorting.specs.Sums.{fullest_of};
-ghost use Rattle.sorting.specs.Worked.{early_answer, wait_test, full_test};
+ghost use Rattle.yard.specs.Refusals.{test_told};
+ghost use Rattle.sorting.specs.Worked.{wait_test, full_test};
 ghost use Rattle.sound.specs.Worked.{sound_tests};
 
-use sorting::early::Early;
-use yard::{Answer, Counts};
+use sorting::Pulls;
+use sorting::early::EarlyPull;
+use yard::{Night, Refusal};
 
 // 8: no car pulled early, or else the lowest car of the first such step.
-fn early(codes: &[u16], tracks: usize, steps: usize) -> Answer
+fn early(codes: &[u16], tracks: usize, steps: usize) -> Result<(), Refusal>
     requires { (0 < tracks) × (steps ≤ limits.steps) }
-    ensures { result ≡ early_answer (early_found tracks steps codes.now) }
+    ensures { test_told result ≡ wait_test tracks steps codes.now }
 {
-    let found = sorting::early::first_early(codes, tracks, steps);
-    match found {
-        Early::At(step, car) => intake::answer(8, car, step),
-        Early::Never => intake::answer(0, 0, 0),
+    match sorting::early::first_early(codes, tracks, steps) {
+        Some(EarlyPull { step, car }) => Err(Refusal::CarPulledEarly { car, step }),
+        None => Ok(()),
     }
 }
 
 // 8 for codes below 2 to the steps: the fewest tracks of each code come first, and the search only where a code needs more than there are.
-fn kept(codes: &[u16], tracks: usize, steps: usize) -> Answer
-    requires { (0 < tracks) × (steps ≤ limits.steps) × CodesBelow steps codes.now }
-    ensures { result ≡ wait_test tracks steps codes.now }
+fn kept(pulls: Pulls, tracks: usize) -> Result<(), Refusal>
+    requires { (0 < tracks) × CodesBelow pulls.steps pulls.codes.now }
+    ensures { test_told result ≡ wait_test tracks pulls.entry.steps pulls.entry.codes.now }
 {
-    if codes::first_wider(codes, tracks, steps) < codes.len() {
-        return early(codes, tracks, steps);
+    match codes::first_wider(pulls.codes, tracks, pulls.steps) {
+        Some(_) => early(pulls.codes, tracks, pulls.steps),
+        None => Ok(()),
     }
-    intake::answer(0, 0, 0)
 }
 
 // 6: no track overfilled, or else the first such step and its cars.
-fn full(codes: &[u16], fullest: usize, room: usize, steps: usize) -> Answer
-    requires { (steps ≤ limits.steps) × (length codes.now ≤ limits.cars) × (fullest ≡ fullest_of codes.now steps) }
-    ensures { result ≡ full_test room steps codes.now }
+fn full(pulls: Pulls, room: usize) -> Result<(), Refusal>
+    ensures { test_told result ≡ full_test room pulls.entry.steps pulls.entry.codes.now }
 {
-    let step = sorting::first_above(codes, steps, room, fullest);
-    if step < steps {
-        intake::answer(6, step, sorting::pull(codes, step))
-    } else {
-        intake::answer(0, 0, 0)
+    match pulls.first_above(room) {
+        Some(step) => Err(Refusal::TrackOverfilled {
+            step,
+            cars: pulls.pull(step),
+        }),
+        None => Ok(()),
     }
 }
 
-// 7, 14, 8 and 6: what the codes alone can break, with their fullest pull.
-pub fn sound(codes: &[u16], fullest: usize, closed: bool, counts: Counts) -> Answer
-    requires { (0 < counts.tracks) × (counts.steps ≤ limits.steps) × (length codes.now ≤ limits.cars) × (fullest ≡ fullest_of codes.now
-        counts.steps) }
-    ensures { result ≡ verdict (sound_tests closed counts.tracks counts.room counts.steps codes.now) (says 0 0 0) }
+// 7, 14, 8 and 6: what the codes alone can break.
+pub fn sound(night: Night, pulls: Pulls) -> Result<(), Refusal>
+    requires { 0 < night.tracks }
+    ensures { test_told result ≡ verdict (sound_tests night.entry.closed night.entry.tracks night.entry.room pulls.entry.steps
+        pulls.entry.codes.now) (says 0 0 0) }
 {
-    let below = lists::codes(codes, counts.steps);
-    if below.number != 0 {
-        return below;
-    }
-    let barred = lists::zeros(codes, closed);
-    if barred.number != 0 {
-        return barred;
-    }
-    let pulled = kept(codes, counts.tracks, counts.steps);
-    if pulled.number != 0 {
-        return pulled;
-    }
-    full(codes, fullest, counts.room, counts.steps)
+    lists::codes(pulls.codes, pulls.steps)?;
+    lists::zeros(pulls.codes, night.closed)?;
+    kept(pulls, night.tracks)?;
+    full(pulls, night.room)
 }

@@ -77,6 +77,10 @@ filled_next f n done more before now car l w split r =
 
 -- ---- places in a list that has each car once
 
+-- the cars with the first i places have got theirs
+abbrev pub Placed : List ℕ → ℕ → List ℕ → List ℕ → Type 0
+Placed l i before now = Filled (λ car. place car l) (length l) (λ car. Within 1 (length l) car × (place car l < i)) before now
+
 module _ (l : List ℕ) (once : EachOnce l) where
   pub item-within : (i : ℕ) → i < length l → Within 1 (length l) (get_or l i 0)
   item-within i m =
@@ -101,3 +105,18 @@ module _ (l : List ℕ) (once : EachOnce l) where
 
   pub place-below : (car : ℕ) → Within 1 (length l) car → place car l < length l
   place-below car w = place-among car l (omega (arith, once car, count-up_from-in car 1 (length l) w.0 (omega (arith, w.1))))
+
+  -- one car more, and all
+  pub placed_next : {before now : List ℕ} {i : ℕ} → length l ≤ length before → i < length l → Placed l i before now →
+      Placed l (i + 1) before (set now (get_or l i 0 - 1) i)
+  placed_next {before} {now} {i} room m r =
+      subst (λ (k : ℕ). Placed l (i + 1) before (set now (get_or l i 0 - 1) k)) (place_at i m)
+      (filled_next (λ car. place car l) (length l) (λ car. Within 1 (length l) car × (place car l < i))
+      (λ car. Within 1 (length l) car × (place car l < i + 1)) before now (get_or l i 0) room (item-within i m)
+      (λ other w. ⊎_elim (λ e. inl e) (λ h. inr (w.0, h)) (place-split i other w.0 w.1)) r)
+
+  pub placed_all : {before now : List ℕ} {i : ℕ} → length l ≤ length before → length l ≤ i → Placed l i before now →
+      Front (map (λ car. place car l) (cars (length l))) before (length l) now
+  placed_all {before} {now} {i} room m r =
+      filled-all (λ car. place car l) (length l) (λ car. Within 1 (length l) car × (place car l < i)) before now room
+      (λ car w. (w, omega (arith, place-below car w))) r

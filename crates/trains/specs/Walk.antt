@@ -1,5 +1,6 @@
 -- A walk over the trains: how many cars the first trains have, and where the next one ends.
-use Rattle.std.specs.Prelude.{ℕ, ◌+◌, ◌≤◌, ◌≡◌, List, length, get_or, take}
+use Rattle.std.specs.Prelude.{ℕ, ◌+◌, ◌≤◌, ◌≡◌, List, [], ◌∷◌, length, get_or, take}
+use Rattle.std.specs.declared.ops.Range.{Range}
 use Rattle.yard.specs.Night.{sum}
 
 -- the first t trains have so many cars
@@ -12,3 +13,8 @@ pub record Ends (lengths : List ℕ) (t before end : ℕ) : Type 0 where
   pub car : end ≡ before + get_or lengths t 0
   pub within : end ≤ sum lengths
   pub walked : Walked lengths (t + 1) end
+
+-- the ranges of the cars of trains that begin with this car, by their lengths
+abbrev pub ranges : ℕ → List ℕ → List (Range ℕ)
+ranges before [] = []
+ranges before (l ∷ lengths) = record { start = before; end = before + l } ∷ ranges (before + l) lengths

@@ -1,21 +1,55 @@
-// The trains of a night: where each ends among the cars, the place of each car in the inbound list, and which pairs are breaks.
+// The trains of a night: the cars of each, the place of each car in the inbound list, and which pairs are breaks.
 #![tactic(auto)]
 
-ghost use Rattle.std.specs.Prelude.{◌≡◌, map, ◌≤◌, ◌<◌, length};
+ghost use Rattle.std.specs.Prelude.{◌≡◌, map, ◌+◌, ◌≤◌, ◌<◌, length};
 ghost use Rattle.yard.specs.Limits.{limits};
 ghost use Rattle.yard.specs.Words.{place};
 ghost use Rattle.yard.specs.Night.{cars, sum};
 ghost use Rattle.yard.specs.Demands.{EachOnce};
 ghost use Rattle.scan.specs.Front.{Front};
-ghost use Rattle.trains.specs.Walk.{Walked, Ends};
+ghost use Rattle.trains.specs.Walk.{ranges};
 ghost use Rattle.trains.specs.Turned.{turned};
 
-// Where the train behind the first ones ends, if these have so many cars: every walk over the trains goes by this.
-pub fn end(lengths: &[u16], t: usize, before: usize) -> usize
-    requires { Walked lengths.now t before × (t < length lengths.now) × (sum lengths.now ≤ limits.cars) }
-    ensures { Ends lengths.now t before result }
-{
-    before + lengths[t] as usize
+use std::ops::Range;
+
+// The trains of a night, one after the other, each as the range of its cars: their indexes in car order. Walks over the trains of a night go by
+// this.
+#[derive(Drop)]
+pub struct Trains<'a> {
+    lengths: &'a [u16],
+    before: usize,
+    ghost within: { before + sum lengths.now ≤ limits.cars },
+}
+
+impl<'a> Trains<'a> {
+    ghost use Rattle.trains.specs.Ranges.{ranges_left};
+
+    pub fn new(lengths: &'a [u16]) -> Trains<'a>
+        requires { sum lengths.now ≤ limits.cars }
+        ensures { ranges_left result ≡ ranges 0 lengths.now }
+    {
+        Trains { lengths, before: 0 }
+    }
+}
+
+impl<'a> Iterator for Trains<'a> {
+    ghost use Rattle.std.specs.Iterator.{YieldsFirst, item_count};
+    ghost use Rattle.trains.specs.Ranges.{ranges_left};
+
+    type Item = Range<usize>;
+
+    ghost next_gives = { YieldsFirst ranges_left };
+
+    ghost remaining = { item_count ranges_left };
+
+    fn next(&mut self) -> Option<Range<usize>> {
+        let (&length, others) = self.lengths.split_first()?;
+        let from = self.before;
+        let to = from + usize::from(length);
+        self.lengths = others;
+        self.before = to;
+        Some(from..to)
+    }
 }
 
 // The place of each car in the inbound list, from 0, in car order.
@@ -24,9 +58,9 @@ pub fn places(inbound: &[u16], into: &mut [u16])
     ensures { Front (map (λ car. place car inbound.now) (cars (length inbound.now)))
         into.old (length inbound.now) into.new }
 {
-    for i in 0..inbound.len() {
-        let car = inbound[i] as usize;
-        into[car - 1] = i as u16;
+    for (i, &car) in inbound.iter().enumerate() {
+        // One of at most 4,096 places, so that it fits.
+        into[usize::from(car) - 1] = i as u16;
     }
 }
 

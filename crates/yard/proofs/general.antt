@@ -1,4 +1,5 @@
 -- Laws of tests, numbers, lists and searches, which know nothing of yards.
+pub mod Limits
 pub mod Bools
 pub mod Numbers
 pub mod First

@@ -12,4 +12,6 @@ pub mod Calls
 pub mod Bits
 pub mod Card
 pub mod Price
+pub mod Refusals
+pub mod Lent
 pub mod Trials

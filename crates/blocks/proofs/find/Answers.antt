@@ -1,5 +1,5 @@
 -- The proof of `find`: the table that is handed on has the allowed codes.
-use mathlib.Core.Path.{refl, subst, sym}
+use mathlib.Core.Path.{subst, sym}
 use mathlib.Core.List.{List}
 use Prim.Native.Nat.{ℕ, ◌^◌, ◌≤◌}
 use native.Mathlib.Omega.{arith}
@@ -9,35 +9,26 @@ use Rattle.yard.specs.Limits.{first_limits}
 use Rattle.yard.proofs.calls.Larger.{within_more}
 use Rattle.scan.specs.Front.{Under}
 use Rattle.codes.proofs.Steps.{F-le}
-use Rattle.blocks.specs.Trains.{AllBlocked, Coded}
+use Rattle.blocks.specs.Trains.{AllBlocked}
 use Rattle.blocks.proofs.Coding.{allowed-few, allowed-under}
 use Rattle.blocks.proofs.find.Goals as goal
-
-pub slice_bounds-allowed_codes-end : goal.slice_bounds-allowed_codes-end
-slice_bounds-allowed_codes-end c = refl
 
 pub allowed_codes-allowed-requires : goal.allowed_codes-allowed-requires
 allowed_codes-allowed-requires c =
     let pre = c.requires in (
       within_more (omega arith) pre.0,
       omega (arith, pre.1),
-      omega (arith, F-le c.args.tracks c.args.steps, pow_mono pre.1),
+      omega (arith, F-le c.args.night.tracks c.args.steps, pow_mono pre.1),
     )
 
 pub give-requires : goal.give-requires
 give-requires c =
-    let args = c.args in
+    let n = c.args.night in
     let pre = c.requires in
     subst
-    (λ (l : List ℕ). (length l ≤ 2 ^ first_limits.steps) × Under (2 ^ first_limits.steps) l × AllBlocked args.lengths.now (length l) args.numbers.now)
-    (sym c.allowed_codes-allowed.ensures.listed) (
-      allowed-few args.closed args.tracks args.steps pre.0.0 pre.1,
-      allowed-under args.closed args.tracks args.steps pre.1,
+    (λ (l : List ℕ). (length l ≤ 2 ^ first_limits.steps) × Under (2 ^ first_limits.steps) l × AllBlocked n.lengths.now (length l) c.args.numbers.now)
+    (sym c.allowed_codes-allowed.ensures) (
+      allowed-few n.closed n.tracks c.args.steps pre.0.0 pre.1,
+      allowed-under n.closed n.tracks c.args.steps pre.1,
       pre.2,
     )
-
-pub returns : goal.returns
-returns c =
-    let args = c.args in
-    subst (λ (l : List ℕ). Coded args.lengths.now l args.numbers.now c.give.new.numbers) c.allowed_codes-allowed.ensures.listed
-    c.give.ensures

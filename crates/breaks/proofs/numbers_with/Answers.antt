@@ -1,54 +1,42 @@
 -- The proof of `numbers_with`: the trains passed are counted.
-use mathlib.Core.Path.{refl, ◌∙◌}
-use Prim.Native.Nat.{◌≤◌, ◌<◌}
+use Prim.Native.Nat.{ℕ}
 use native.Mathlib.Omega.{arith}
-use lib.ListN.{length}
-use Rattle.breaks.proofs.ByCar.{places-by-car, counted_none, counted_next, counted-all, train-within}
+use lib.ListN.{length, length-replicate}
+use Rattle.trains.proofs.Walk.{before_it, behind_it, train_turn, trains_end}
+use Rattle.breaks.proofs.ByCar.{Counted, places-by-car, counted_next, counted-all, train-within}
 use Rattle.breaks.proofs.numbers_with.Goals as goal
 
-pub places-requires : goal.places-requires
-places-requires c =
-    let pre = c.requires in
-    (pre.placed, pre.cars, pre.lists.once)
-
-pub loop-t-init : goal.loop-t-init
-loop-t-init c =
-    (refl, counted_none c.args.lengths.now c.args.inbound.now c.requires.lists c.args.into.now)
-
-pub end-end-requires : goal.end-end-requires
-end-end-requires c =
-    let pre = c.requires in
-    (c.loop-t.invariant.1.walked, c.loop-t-test.true, omega (arith, pre.lists.adds, pre.cars))
-
 pub train-requires : goal.train-requires
-train-requires c =
-    let within : (c.loop-t.before < c.end-end.result) × (c.end-end.result ≤ length c.args.inbound.now) = train-within c.args.lengths.now c.args.inbound.now c.requires.lists c.loop-t-test.true c.loop-t.invariant.1
-    c.end-end.ensures in
-    let pre = c.requires in
-    let here = within in (
+train-requires g c =
+    let lengths = c.args.lengths.now in
+    let inbound = c.args.inbound.now in
+    let pre = c.requires.0 in
+    let it = c.loop-cars in
+    let stands = train_turn lengths c.new-cars-items.ensures c.into_iter-cars-iterator.ensures.into_iter_gives it.yielded it.cars-iterator it.yielded_by c.next.new.self c.next.ensures.steps c.in-Some.is in
+    let held = before_it stands (λ b. Counted lengths inbound (length it.yielded) it.most b it.into) it.invariant.2 in
+    let here = train-within lengths inbound pre.lists stands.more held stands.ends in (
       here.0,
       omega (arith, here.1, pre.cars),
-      omega (arith, here.1, pre.placed, c.places.auto.into),
-      omega (arith, here.1, pre.room, c.loop-t.invariant.0),
+      omega (arith, here.1, pre.placed, length-replicate {A = ℕ} g.row.PLACES 0, c.places.auto.into),
+      omega (arith, here.1, pre.room, it.auto.into),
     )
 
-pub loop-t-preserved : goal.loop-t-preserved
-loop-t-preserved c =
+pub loop-cars-preserved : goal.loop-cars-preserved
+loop-cars-preserved g c =
+    let lengths = c.args.lengths.now in
     let inbound = c.args.inbound.now in
-    let places = places-by-car inbound c.places.ensures in
-    let next =
-    counted_next c.args.lengths.now inbound c.requires.lists c.loop-t-test.true c.loop-t.invariant.1 c.end-end.ensures
-    places c.train.ensures in
-    (c.train.auto.into ∙ c.loop-t.invariant.0, rw c.more-most.ensures next)
-
-pub shape_of-places : goal.shape_of-places
-shape_of-places c = c.places.auto.into
-
-pub shape_of-into : goal.shape_of-into
-shape_of-into c = c.loop-t.invariant.0
+    let it = c.loop-cars in
+    let stands = train_turn lengths c.new-cars-items.ensures c.into_iter-cars-iterator.ensures.into_iter_gives it.yielded it.cars-iterator it.yielded_by c.next.new.self c.next.ensures.steps c.in-Some.is in
+    let held = before_it stands (λ b. Counted lengths inbound (length it.yielded) it.most b it.into) it.invariant.2 in (
+      tt,
+      tt,
+      behind_it stands c.in-Some.cars (λ t b. Counted lengths inbound t c.max-most.result b c.train.new.into)
+          (rw c.max-most.ensures (counted_next lengths inbound c.requires.0.lists stands.more held stands.ends (places-by-car inbound c.places.ensures) c.train.ensures)),
+    )
 
 pub returns : goal.returns
-returns c =
-    counted-all c.args.lengths.now c.args.inbound.now c.requires.lists c.loop-t-test.false
-    (omega (arith, c.requires.room, c.loop-t.invariant.0))
-    c.loop-t.invariant.1
+returns g c =
+    let lengths = c.args.lengths.now in
+    let it = c.loop-cars in
+    let end = trains_end lengths c.new-cars-items.ensures c.into_iter-cars-iterator.ensures.into_iter_gives it.yielded it.cars-iterator it.yielded_by c.next.new.self c.next.ensures.steps c.in-None.is in
+    counted-all lengths c.args.inbound.now c.requires.0.lists end.0 (omega (arith, c.requires.0.room, it.auto.into)) it.invariant.2

@@ -4,24 +4,9 @@ use Prim.Native.Nat.{ℕ, suc, ◌-◌, ◌*◌, ◌≤◌, ◌<◌}
 use native.Mathlib.Omega.{arith}
 use Rattle.choice.specs.Rows.{together}
 use Rattle.choice.proofs.FirstLeast.{held-here, held-later}
-use Rattle.choice.proofs.Table.{Rowed, rowed-none, rowed-next}
+use Rattle.choice.proofs.Table.{Rowed, rowed-next}
 use Rattle.choice.proofs.row.Goals as goal
 use Rattle.choice.proofs.row.Goals.{then-cost-least, else-cost-least}
-
-pub loop-d-init : goal.loop-d-init
-loop-d-init c = rowed-none
-
-pub overflow_mul-cost : goal.overflow_mul-cost
-overflow_mul-cost c =
-    let cost : ℕ → ℕ = together c.args.weights.now c.args.costs.now c.args.b c.args.behind.now in
-    let fits : cost (c.loop-d.d - 1) ≤ 65535 = c.requires.5 (c.loop-d.d - 1) (omega (arith, c.loop-d.invariant.upto)) in
-    omega (arith, fits)
-
-pub overflow_add-cost-in-loop-d : goal.overflow_add-cost-in-loop-d
-overflow_add-cost-in-loop-d c =
-    let cost : ℕ → ℕ = together c.args.weights.now c.args.costs.now c.args.b c.args.behind.now in
-    let fits : cost (c.loop-d.d - 1) ≤ 65535 = c.requires.5 (c.loop-d.d - 1) (omega (arith, c.loop-d.invariant.upto)) in
-    omega (arith, fits, c.loop-d.invariant.ahead (c.loop-d.d - 1) (omega arith))
 
 pub loop-d-preserved : goal.loop-d-preserved
 loop-d-preserved c =
@@ -40,14 +25,3 @@ loop-d-preserved c =
       | else-cost-least w ↦ rw (w.least-is, w.pick-is) (held-later cost c.args.width d near so_far.held fits (omega (arith, w.if-cost-least.false)))
     ])
     so_far
-
-pub shape_of-behind : goal.shape_of-behind
-shape_of-behind c = c.loop-d.invariant.long.0
-
-pub shape_of-picks : goal.shape_of-picks
-shape_of-picks c = c.loop-d.invariant.long.1
-
-pub returns : goal.returns
-returns c =
-    let none : c.loop-d.d ≡ 0 = omega arith in
-    rw none at c.loop-d.invariant.done

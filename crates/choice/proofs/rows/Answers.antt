@@ -1,5 +1,5 @@
 -- The proof of `rows`: the table is filled from the block at hand on.
-use mathlib.Core.Path.{◌≡◌, refl, sym, ap, ◌∙◌}
+use mathlib.Core.Path.{◌≡◌, refl, ap, ◌∙◌}
 use Prim.Native.Nat.{ℕ, suc, ◌-◌, ◌*◌, ◌^◌, ◌≤◌}
 use native.Mathlib.Omega.{arith}
 use lib.ListN.{get_or-replicate}
@@ -11,9 +11,6 @@ pub loop-b-init : goal.loop-b-init
 loop-b-init c =
     let ch = c.requires.0 in
     (refl, refl, filled_none ch (λ d l. get_or-replicate (2 ^ first_limits.steps) d 0 0 (omega (arith, ch.numbers, ch.some, ch.enough))))
-
-pub slice_bounds-row-end : goal.slice_bounds-row-end
-slice_bounds-row-end c = sym c.loop-b.invariant.1
 
 pub row-requires : goal.row-requires
 row-requires c =
@@ -42,11 +39,3 @@ loop-b-preserved c =
       c.row.auto.behind ∙ c.loop-b.invariant.1,
       filled_next c.requires.0 (c.loop-b.b - 1) here.upto here c.requires.1 c.row.ensures,
     )
-
-pub shape_of-picks : goal.shape_of-picks
-shape_of-picks c = c.loop-b.invariant.0
-
-pub returns : goal.returns
-returns c =
-    let none : c.loop-b.b ≡ 0 = omega arith in
-    rw none at c.loop-b.invariant.2.table

@@ -1,65 +1,44 @@
--- The proof of `fewest_steps`: the codes are F of the steps taken, and the ring holds what the next steps lose.
-use mathlib.Core.Path.{refl, sym, ap, ◌∙◌}
+-- The proof of `fewest_steps`: the codes are F of the steps taken, and what is left of the search finds what the whole search finds.
+use mathlib.Core.Path.{sym, ap, ◌∙◌}
 use Prim.Native.Nat.{ℕ, suc, ◌<◌}
 use native.Mathlib.Nat.{sub-zero}
 use native.Mathlib.Omega.{arith}
-use native.Mathlib.Numerals.{add-one}
 use borrow.Author.Tests.{lt-leb}
 use Rattle.yard.specs.Words.{first}
-use Rattle.yard.specs.Limits.{limits}
 use Rattle.yard.specs.Codes.{F, fewest_steps}
 use Rattle.yard.proofs.general.First.{first_goes}
 use Rattle.yard.proofs.yards.Counting.{F-above}
-use Rattle.codes.proofs.Steps.{F-next, ring-first, enough, fewest-found}
+use Rattle.codes.proofs.Steps.{enough, fewest-found}
 use Rattle.codes.proofs.fewest_steps.Goals as goal
 
-pub loop-codes-init : goal.loop-codes-init
+pub loop-usable-init : goal.loop-usable-init
 unfolding fewest_steps
-loop-codes-init c =
-    let args = c.args in (
-      omega arith,
-      refl,
-      refl,
-      ring-first args.tracks c.requires.0.0 limits.tracks c.requires.0.1,
-      ap (λ (n : ℕ). first (enough args.tracks args.breaks) n 0) (sub-zero args.breaks),
-    )
-
-pub slice_bounds-lost-end : goal.slice_bounds-lost-end
-slice_bounds-lost-end c = sym c.loop-codes.invariant.2
-
-pub lost-requires : goal.lost-requires
-lost-requires c =
-    let held = c.loop-codes.invariant in
-    (omega arith, omega arith, held.1, held.3)
-
-pub overflow_sub-codes : goal.overflow_sub-codes
-overflow_sub-codes c = omega (
-  arith,
-  F-next c.args.tracks c.loop-codes.steps,
-  c.lost.ensures.0,
+loop-usable-init c = (
+  omega (arith, c.new-usable.ensures.1),
+  c.new-usable.ensures.0,
+  rw c.new-usable.ensures.1 (ap (λ (n : ℕ). first (enough c.args.tracks c.args.breaks) n 0) (sub-zero c.args.breaks)),
 )
 
-pub loop-codes-smaller : goal.loop-codes-smaller
-loop-codes-smaller c = omega (
-  arith,
-  F-above c.args.tracks c.loop-codes.steps
-      c.requires.0.0,
-)
+pub loop-usable-smaller : goal.loop-usable-smaller
+loop-usable-smaller c =
+    let u = c.loop-usable.usable in
+    omega (arith, c.step.ensures.2, u.counted, F-above u.tracks u.steps u.some)
 
-pub loop-codes-preserved : goal.loop-codes-preserved
-loop-codes-preserved c =
-    let args = c.args in
-    let steps = c.loop-codes.steps in
-    let held = c.loop-codes.invariant in
-    let before : steps < args.breaks = omega (arith, F-above args.tracks steps c.requires.0.0) in (
-      omega arith,
-      rw add-one (omega (arith, F-next args.tracks steps, c.lost.ensures.0)),
-      c.lost.auto.ring ∙ held.2,
-      c.lost.ensures.1,
-      sym (first_goes (enough args.tracks args.breaks) args.breaks steps steps before
-          (lt-leb (suc args.breaks) (F args.tracks steps) (omega arith))) ∙ held.4,
+pub loop-usable-preserved : goal.loop-usable-preserved
+loop-usable-preserved c =
+    let u = c.loop-usable.usable in
+    let held = c.loop-usable.invariant in
+    let before : u.steps < c.args.breaks = omega (arith, u.counted, F-above u.tracks u.steps u.some) in
+    let counted = ap (λ (W : ℕ). F W u.steps) held.1 in (
+      omega (arith, c.step.ensures.2),
+      c.step.ensures.1 ∙ held.1,
+      rw c.step.ensures.2
+          (sym (first_goes (enough c.args.tracks c.args.breaks) c.args.breaks u.steps u.steps before
+          (lt-leb (suc c.args.breaks) (F c.args.tracks u.steps) (omega (arith, counted, u.counted)))) ∙ held.2),
     )
 
 pub returns : goal.returns
-returns c = fewest-found c.args.tracks c.args.breaks c.loop-codes.steps (omega arith) (omega arith)
-    c.loop-codes.invariant.4
+returns c =
+    let u = c.loop-usable.usable in
+    let counted = ap (λ (W : ℕ). F W u.steps) c.loop-usable.invariant.1 in
+    fewest-found c.args.tracks c.args.breaks u.steps c.loop-usable.invariant.0 (omega (arith, counted, u.counted)) c.loop-usable.invariant.2

@@ -7,13 +7,16 @@ use Rattle.yard.specs.Limits.{first_limits}
 use Rattle.codes.proofs.Steps.{F-le}
 use Rattle.derive.proofs.give.Goals as goal
 
-pub give_with-requires : goal.give_with-requires
-give_with-requires c =
+pub give_by-requires : goal.give_by-requires
+give_by-requires c =
     let pre = c.requires in
     let few : c.args.steps ≤ first_limits.steps = omega arith in
-    record {
-      tracks = pre.tracks;
-      steps = pre.steps;
-      room = le_trans (F-le c.args.tracks c.args.steps) (pow_mono few);
-      below = pre.below;
-    }
+    let fits : 256 ≤ 8192 = omega arith in (
+      record {
+        tracks = pre.tracks;
+        steps = pre.steps;
+        room = le_trans (F-le c.args.night.tracks c.args.steps) (pow_mono few);
+        below = pre.below;
+      },
+      fits,
+    )

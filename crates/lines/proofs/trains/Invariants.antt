@@ -1,12 +1,12 @@
--- The proof of `trains`: the lines of the trains passed stand behind the first bytes.
-use Prim.Native.Nat.{suc, ◌≤◌}
+-- The proof of `trains`: the lines of the trains passed stand behind the text.
+use Prim.Native.Nat.{suc}
 use mathlib.Core.Path.{◌≡◌}
-use lib.ListN.{length, take}
+use lib.ListN.{take}
 use Rattle.yard.specs.Night.{sum, cars_of}
-use Rattle.lines.specs.Text.{Adds}
+use Rattle.lines.specs.Text.{Grows}
 use Rattle.lines.specs.Lines.{train_line, each_to}
 use Rattle.lines.proofs.trains.Given as goal
 
 abbrev pub invariant-loop-i : goal.invariant-loop-i
 invariant-loop-i l =
-    (l.i ≤ length l.lengths) × (l.first ≡ suc (sum (take l.i l.lengths))) × Adds (each_to (λ t. train_line t (cars_of l.lengths t)) l.i) l.initial.text l.at l.end l.text
+    (l.first ≡ suc (sum (take l.i l.lengths))) × Grows (each_to (λ t. train_line t (cars_of l.lengths t)) l.i) l.initial.text l.text

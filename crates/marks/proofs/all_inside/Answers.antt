@@ -1,20 +1,15 @@
--- The proof of `all_inside`: all numbers passed are cars, and all that are left, exactly if all are.
-use mathlib.Core.Path.{refl}
-use native.Mathlib.Omega.{arith}
+-- The proof of `all_inside`: all numbers folded so far are cars, exactly if the flag says so.
+use Rattle.std.proofs.Common.{rules, ◌≡◌, subst, refl}
+use Rattle.std.proofs.lemmas.Fn.{fold_over, slice_gives, fronts}
+use Rattle.yard.specs.Words.{every}
 use Rattle.yard.specs.Answers.{in_range}
-use Rattle.scan.proofs.Running.{every-next, every-end}
+use Rattle.scan.proofs.Folds.{every-push}
 use Rattle.marks.proofs.all_inside.Goals as goal
-
-pub loop-i-init : goal.loop-i-init
-loop-i-init c = (omega arith, refl)
-
-pub loop-i-preserved : goal.loop-i-preserved
-loop-i-preserved c =
-    let inbound = c.args.inbound.now in
-    let known = c.loop-i.invariant.1 in
-    (omega arith, every-next (in_range inbound) inbound _ c.loop-i.all _ known c.loop-i-test.true c.inside-all.ensures)
 
 pub returns : goal.returns
 returns c =
-    let inbound = c.args.inbound.now in
-    every-end (in_range inbound) inbound _ c.loop-i.all _ c.loop-i.invariant.1 c.loop-i-test.false
+    let car = in_range c.args.inbound.now in
+    subst (λ l. c.fold.result ≡ every car l) c.iter.ensures.rest
+    (fold_over fronts (λ y. y.now) _ (λ ys all. all ≡ every car ys) _
+    (λ ys a x b f' j k. let more = every-push car ys x.now in search rules)
+    _ _ _ _ (slice_gives c.iter.result) refl c.fold.ensures.ran)

@@ -1,17 +1,14 @@
--- The proof of `bad`: by cases on the range.
-use mathlib.Core.Path.{sym, ◌∙◌}
-use Rattle.marks.proofs.Marks.{looked-out}
+-- The proof of `bad`: a number that is out of range is bad, and any other if its car is marked.
+use Rattle.marks.proofs.Marks.{looked, looked-out}
 use Rattle.marks.proofs.bad.Goals as goal
 
-pub returns-then-not-inside : goal.returns-then-not-inside
-returns-then-not-inside c =
+pub returns-then-outside : goal.returns-then-outside
+returns-then-outside g c =
     let given = c.requires in
-    looked-out _ _ _ given.2 given.0 (sym c.inside.ensures ∙ c.if-not-inside.true)
+    looked-out _ _ _ given.sought given.within (given.tells _ _ given.within c.outside.ensures) c.if-outside.true
 
-pub again-requires : goal.again-requires
-again-requires c =
+pub returns-else-outside : goal.returns-else-outside
+returns-else-outside g c =
     let given = c.requires in
-    (given.0, sym c.inside.ensures ∙ c.if-not-inside.false, given.2)
-
-pub returns : goal.returns
-returns c = c.again.ensures
+    let marking = c.mark.ensures in
+    looked _ _ _ given.sought given.within (given.tells _ _ given.within c.outside.ensures) c.if-outside.false c.from.ensures marking.0 marking.1

@@ -2,32 +2,12 @@
 use native.Mathlib.Omega.{arith}
 use Prim.Native.Nat.{◌/◌}
 use lib.ListN.{length}
-use borrow.Author.Rules.{rules}
 use Rattle.marks.proofs.Word.{one_bit}
 use Rattle.marks.proofs.Marks.{in_words, marks-one, was-marked}
 use Rattle.marks.proofs.mark.Goals as goal
 
 pub nonzero_rem-at : goal.nonzero_rem-at
 nonzero_rem-at c = omega (arith, in_words c.args.marks.now c.args.car c.requires.0 c.requires.1)
-
-pub offset_bounds-marks-at : goal.offset_bounds-marks-at
-offset_bounds-marks-at c =
-    let within = in_words c.args.marks.now c.args.car c.requires.0 c.requires.1 in
-    search rules
-
-pub bounds-marks-at : goal.bounds-marks-at
-bounds-marks-at c = in_words c.args.marks.now c.args.car c.requires.0 c.requires.1
-
-pub nonzero_div-after : goal.nonzero_div-after
-nonzero_div-after c = omega (arith, in_words c.args.marks.now c.args.car c.requires.0 c.requires.1)
-
-pub offset_bounds-marks-at-2 : goal.offset_bounds-marks-at-2
-offset_bounds-marks-at-2 c =
-    let within = in_words c.args.marks.now c.args.car c.requires.0 c.requires.1 in
-    search rules
-
-pub bounds-marks-at-2 : goal.bounds-marks-at-2
-bounds-marks-at-2 c = in_words c.args.marks.now c.args.car c.requires.0 c.requires.1
 
 pub returns : goal.returns
 returns c =

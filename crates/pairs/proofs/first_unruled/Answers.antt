@@ -1,54 +1,41 @@
 -- The proof of `first_unruled`: of the trains passed no pair breaks the rule.
-use mathlib.Core.Path.{◌≡◌, ◌∙◌, subst}
-use Prim.Native.Nat.{ℕ}
+use mathlib.Core.Path.{◌∙◌}
 use native.Mathlib.Omega.{arith}
-use lib.ListN.{length}
-use Rattle.trains.proofs.Walk.{walked_none, walked_all}
-use Rattle.pairs.specs.Pairs.{Part}
-use Rattle.pairs.proofs.Pairs.{Passed, passed-all, train-part, train-passed, train-found}
+use Rattle.trains.proofs.Walk.{train_turn, trains_end}
+use Rattle.pairs.proofs.Pairs.{train-part, stands-passed, stands-found, all-passed}
 use Rattle.pairs.proofs.first_unruled.Goals as goal
-
-pub loop-t-init : goal.loop-t-init
-loop-t-init c = (walked_none _, λ j l h m. absurd (omega arith))
-
-pub end-end-requires : goal.end-end-requires
-end-end-requires c =
-    let pre = c.requires in
-    (c.loop-t.invariant.0, c.loop-t-test.true, omega (arith, pre.all, pre.few))
 
 pub unruled_pairs-requires : goal.unruled_pairs-requires
 unruled_pairs-requires c =
-    let part : let args = c.args in
-    Part args.places.now args.codes.now c.loop-t.before c.end-end.result = train-part c.args.lengths.now c.args.places.now c.args.codes.now c.requires c.loop-t-test.true
-    c.loop-t.invariant.0 c.end-end.ensures in
-    part
+    let it = c.loop-train in
+    let stands = train_turn c.args.lengths.now c.new-train-items.ensures c.into_iter-train-iterator.ensures.into_iter_gives it.yielded it.train-iterator it.yielded_by c.next.new.self c.next.ensures.steps c.in-Some.is in
+    let part = train-part c.args.lengths.now c.args.places.now c.args.codes.now c.requires stands.more stands.walked stands.ends in
+    (omega (arith, part), omega (arith, part))
 
 pub unruled_in-requires : goal.unruled_in-requires
 unruled_in-requires c =
-    let part : let args = c.args in
-    Part args.places.now args.codes.now c.loop-t.before c.end-end.result = train-part c.args.lengths.now c.args.places.now c.args.codes.now c.requires c.loop-t-test.true
-    c.loop-t.invariant.0 c.end-end.ensures in
-    part
+    let it = c.loop-train in
+    let stands = train_turn c.args.lengths.now c.new-train-items.ensures c.into_iter-train-iterator.ensures.into_iter_gives it.yielded it.train-iterator it.yielded_by c.next.new.self c.next.ensures.steps c.in-Some.is in
+    train-part c.args.lengths.now c.args.places.now c.args.codes.now c.requires stands.more stands.walked stands.ends
 
 pub returns-then-unruled_pairs-gt0 : goal.returns-then-unruled_pairs-gt0
 returns-then-unruled_pairs-gt0 c =
+    let it = c.loop-train in
+    let stands = train_turn c.args.lengths.now c.new-train-items.ensures c.into_iter-train-iterator.ensures.into_iter_gives it.yielded it.train-iterator it.yielded_by c.next.new.self c.next.ensures.steps c.in-Some.is in
     c.unruled_in.ensures ∙
-    train-found c.args.lengths.now c.args.places.now c.args.codes.now c.requires c.loop-t-test.true
-    c.loop-t.invariant.0 c.end-end.ensures c.loop-t.invariant.1
+    stands-found c.args.lengths.now c.args.places.now c.args.codes.now c.requires stands it.invariant.2
     (omega (arith, c.if-unruled_pairs-gt0.true, c.unruled_pairs.ensures))
 
-pub loop-t-preserved : goal.loop-t-preserved
-loop-t-preserved c =
-    let passed =
-    train-passed c.args.lengths.now c.args.places.now c.args.codes.now c.requires c.loop-t-test.true
-    c.loop-t.invariant.0 c.end-end.ensures c.loop-t.invariant.1
+pub loop-train-preserved : goal.loop-train-preserved
+loop-train-preserved c =
+    let it = c.loop-train in
+    let stands = train_turn c.args.lengths.now c.new-train-items.ensures c.into_iter-train-iterator.ensures.into_iter_gives it.yielded it.train-iterator it.yielded_by c.next.new.self c.next.ensures.steps c.in-Some.is in
+    let passed = stands-passed c.args.lengths.now c.args.places.now c.args.codes.now c.requires stands it.invariant.2
     (omega (arith, c.if-unruled_pairs-gt0.false, c.unruled_pairs.ensures)) in
-    (c.end-end.ensures.walked, passed)
+    (tt, tt, passed)
 
 pub returns : goal.returns
 returns c =
-    let places = c.args.places.now in
-    let codes = c.args.codes.now in
-    let all : c.loop-t.before ≡ length codes = walked_all _ c.loop-t-test.false c.loop-t.invariant.0 ∙ c.requires.all in
-    passed-all c.args.lengths.now places codes c.requires
-    (subst (λ (k : ℕ). Passed c.args.lengths.now places codes k) all c.loop-t.invariant.1)
+    let it = c.loop-train in
+    let end = trains_end c.args.lengths.now c.new-train-items.ensures c.into_iter-train-iterator.ensures.into_iter_gives it.yielded it.train-iterator it.yielded_by c.next.new.self c.next.ensures.steps c.in-None.is in
+    all-passed c.args.lengths.now c.args.places.now c.args.codes.now c.requires end.1 it.invariant.2

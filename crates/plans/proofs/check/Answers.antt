@@ -1,72 +1,59 @@
 -- The proof of `check`: each group of tests in its turn.
-use mathlib.Core.Path.{◌≡◌}
+use mathlib.Core.Path.{◌≡◌, refl, sym, ap, subst}
 use native.Mathlib.Omega.{arith}
-use lib.ListN.{length}
-use Rattle.yard.specs.Night.{Plan, plan_of}
-use Rattle.yard.specs.Demands.{Listed}
-use Rattle.plans.proofs.Chain.{Counts, counts-passed, given-passed, counted, check-counts, check-given, check_sound, check-ordered}
+use Rattle.std.specs.Prelude.{Result, Err}
+use Rattle.std.proofs.Common.{rules}
+use Rattle.yard.specs.declared.refusal.Refusal.{Refusal}
+use Rattle.yard.specs.declared.told.Checked.{Checked}
+use Rattle.yard.specs.Calls.{Checks}
+use Rattle.yard.specs.Lent.{the_plan}
+use Rattle.yard.specs.Refusals.{check_told}
+use Rattle.yard.proofs.calls.Told.{refused-not_done}
+use Rattle.plans.proofs.Chain.{counts-passed, given-passed, counted, sound-of, check-counts, check-given, check_sound, check-ordered}
 use Rattle.plans.proofs.check.Goals as goal
 
-pub returns-then-counted-ne0 : goal.returns-then-counted-ne0
-returns-then-counted-ne0 c =
-    let plan : Plan = let a = c.args in
-    plan_of a.lengths.now a.inbound.now a.closed a.counts.tracks a.counts.room a.counts.steps a.codes.now in
-    check-counts plan c.counted-counted.ensures c.if-counted-ne0.true
+pub returns-in_err-night_counts : goal.returns-in_err-night_counts
+returns-in_err-night_counts c =
+    let e = c.in_err-night_counts.field-0.0 in
+    let is : c.from_residual.result ≡ Err e = search rules in
+    subst (λ (r : Result Checked Refusal). Checks (the_plan c.args.plan) (check_told r)) (sym is)
+    (check-counts (the_plan c.args.plan) c.in_err-night_counts.ensures (refused-not_done e))
 
-pub given-listed-requires : goal.given-listed-requires
-given-listed-requires c =
-    let plan : Plan = let a = c.args in
-    plan_of a.lengths.now a.inbound.now a.closed a.counts.tracks a.counts.room a.counts.steps a.codes.now in
-    let within : Counts plan = counts-passed plan c.counted-counted.ensures c.if-counted-ne0.false in
+pub given-requires : goal.given-requires
+given-requires c =
+    let within = counts-passed (the_plan c.args.plan) c.in_ok-night_counts.ensures refl in
     (within.trains.1, within.cars.1)
 
-pub returns-then-listed-ne0 : goal.returns-then-listed-ne0
-returns-then-listed-ne0 c =
-    let plan : Plan = let a = c.args in
-    plan_of a.lengths.now a.inbound.now a.closed a.counts.tracks a.counts.room a.counts.steps a.codes.now in
-    check-given plan c.counted-counted.ensures c.if-counted-ne0.false c.given-listed.ensures
-    c.if-listed-ne0.true
+pub returns-in_err-given : goal.returns-in_err-given
+returns-in_err-given c =
+    let e = c.in_err-given.field-0.0 in
+    let is : c.from_residual-in_err-given.result ≡ Err e = search rules in
+    subst (λ (r : Result Checked Refusal). Checks (the_plan c.args.plan) (check_told r)) (sym is)
+    (check-given (the_plan c.args.plan) c.in_ok-night_counts.ensures refl c.in_err-given.ensures (refused-not_done e))
 
-pub fullest-fullest-requires : goal.fullest-fullest-requires
-fullest-fullest-requires c =
-    let plan : Plan = let a = c.args in
-    plan_of a.lengths.now a.inbound.now a.closed a.counts.tracks a.counts.room a.counts.steps a.codes.now in
-    let within : Counts plan = counts-passed plan c.counted-counted.ensures c.if-counted-ne0.false in
-    let listed : let p = plan in
-    Listed p.night.lengths p.night.inbound × (length p.codes ≡ length p.night.inbound) = given-passed plan c.given-listed.ensures c.if-listed-ne0.false in
+pub of-pulls-requires : goal.of-pulls-requires
+of-pulls-requires c =
+    let within = counts-passed (the_plan c.args.plan) c.in_ok-night_counts.ensures refl in
+    let listed = given-passed (the_plan c.args.plan) c.in_ok-given.ensures refl in
     (within.steps.1, omega (arith, within.cars.1, listed.1))
 
-pub sound-replayed-requires : goal.sound-replayed-requires
-sound-replayed-requires c =
-    let plan : Plan = let a = c.args in
-    plan_of a.lengths.now a.inbound.now a.closed a.counts.tracks a.counts.room a.counts.steps a.codes.now in
-    let within : Counts plan = counts-passed plan c.counted-counted.ensures c.if-counted-ne0.false in
-    let listed : let p = plan in
-    Listed p.night.lengths p.night.inbound × (length p.codes ≡ length p.night.inbound) = given-passed plan c.given-listed.ensures c.if-listed-ne0.false in
-    let w = within in
-    (w.tracks.0, w.steps.1, omega (arith, w.cars.1, listed.1), c.fullest-fullest.ensures)
+pub sound-requires : goal.sound-requires
+sound-requires c = (counts-passed (the_plan c.args.plan) c.in_ok-night_counts.ensures refl).tracks.0
 
-pub returns-then-replayed-ne0 : goal.returns-then-replayed-ne0
-returns-then-replayed-ne0 c =
-    let plan : Plan = let a = c.args in
-    plan_of a.lengths.now a.inbound.now a.closed a.counts.tracks a.counts.room a.counts.steps a.codes.now in
-    check_sound plan c.counted-counted.ensures c.if-counted-ne0.false c.given-listed.ensures
-    c.if-listed-ne0.false c.sound-replayed.ensures c.if-replayed-ne0.true
+pub returns-in_err-sound : goal.returns-in_err-sound
+returns-in_err-sound c =
+    let e = c.in_err-sound.field-0.0 in
+    let is : c.from_residual-in_err-sound.result ≡ Err e = search rules in
+    subst (λ (r : Result Checked Refusal). Checks (the_plan c.args.plan) (check_told r)) (sym is)
+    (check_sound (the_plan c.args.plan) c.in_ok-night_counts.ensures refl c.in_ok-given.ensures refl (sound-of (the_plan c.args.plan) (ap (λ b. b.now) c.of-pulls.ensures.codes) c.of-pulls.ensures.steps c.in_err-sound.ensures) (refused-not_done e))
 
-pub ordered-requires : goal.ordered-requires
-ordered-requires c =
-    let plan : Plan = let a = c.args in
-    plan_of a.lengths.now a.inbound.now a.closed a.counts.tracks a.counts.room a.counts.steps a.codes.now in
-    let within : Counts plan = counts-passed plan c.counted-counted.ensures c.if-counted-ne0.false in
-    let listed : let p = plan in
-    Listed p.night.lengths p.night.inbound × (length p.codes ≡ length p.night.inbound) = given-passed plan c.given-listed.ensures c.if-listed-ne0.false in
-    let w = within in
-    let g = listed in
-    (counted plan w g.1, g.0, w.steps.1, c.fullest-fullest.ensures)
+pub invariant_of-ordered : goal.invariant_of-ordered
+invariant_of-ordered c =
+    let plan = the_plan c.args.plan in
+    let listed = given-passed plan c.in_ok-given.ensures refl in
+    record { counted = counted plan (counts-passed plan c.in_ok-night_counts.ensures refl) listed.1; listed = listed.0 }
 
 pub returns : goal.returns
 returns c =
-    let plan : Plan = let a = c.args in
-    plan_of a.lengths.now a.inbound.now a.closed a.counts.tracks a.counts.room a.counts.steps a.codes.now in
-    check-ordered plan c.counted-counted.ensures c.if-counted-ne0.false c.given-listed.ensures
-    c.if-listed-ne0.false c.sound-replayed.ensures c.if-replayed-ne0.false c.ordered.ensures
+    check-ordered (the_plan c.args.plan) c.in_ok-night_counts.ensures refl c.in_ok-given.ensures refl
+    (sound-of (the_plan c.args.plan) (ap (λ b. b.now) c.of-pulls.ensures.codes) c.of-pulls.ensures.steps c.in_ok-sound.ensures) refl c.ordered.ensures

@@ -1,18 +1,13 @@
--- The proof of `none_with`: none of the items passed is the number, and none of those left, exactly if none is.
-use mathlib.Core.Path.{refl}
-use mathlib.Core.Bool.{not}
-use native.Mathlib.Omega.{arith}
-use lib.Dec.{eqb}
-use Rattle.scan.proofs.Running.{every-next, every-end}
+-- The proof of `none_with`: none of the items folded so far is the number, exactly if the flag says so.
+use Rattle.std.proofs.Common.{rules, ◌≡◌, subst, not, eqb, refl}
+use Rattle.std.proofs.lemmas.Fn.{fold_over, slice_gives, fronts}
+use Rattle.yard.specs.Words.{every}
+use Rattle.scan.proofs.Folds.{every-push}
 use Rattle.scan.proofs.none_with.Goals as goal
-
-pub loop-k-init : goal.loop-k-init
-loop-k-init c = (omega arith, refl)
-
-pub loop-k-preserved : goal.loop-k-preserved
-loop-k-preserved c =
-    (omega arith, every-next (λ x. not (eqb x c.args.number)) c.args.items.now _ c.loop-k.none _ c.loop-k.invariant.1 c.loop-k-test.true refl)
 
 pub returns : goal.returns
 returns c =
-    every-end (λ x. not (eqb x c.args.number)) c.args.items.now _ c.loop-k.none _ c.loop-k.invariant.1 c.loop-k-test.false
+    subst (λ l. c.fold.result ≡ every (λ x. not (eqb x c.args.number)) l) c.iter.ensures.rest
+    (fold_over fronts (λ y. y.now) _ (λ ys none. none ≡ every (λ x. not (eqb x c.args.number)) ys) _
+    (λ ys a x b f' j k. let more = every-push (λ x. not (eqb x c.args.number)) ys x.now in search rules)
+    _ _ _ _ (slice_gives c.iter.result) refl c.fold.ensures.ran)

@@ -1,24 +1,26 @@
 -- The proof of `ends`: the spare bits are 0 exactly if their number is.
-use mathlib.Core.Path.{sym, ap, ◌∙◌}
-use Prim.Native.Nat.{◌-◌, ◌*◌}
+use mathlib.Core.Path.{◌≡◌, sym, ◌∙◌}
+use Prim.Native.Nat.{ℕ}
 use native.Mathlib.Omega.{arith}
-use lib.Dec.{eqb}
+use lib.ListN.{length}
+use borrow.Author.Tests.{ne_eqb}
+use Rattle.std.specs.Int.{div_ceil}
 use Rattle.yard.specs.Bits.{whole_bytes}
-use Rattle.bits.specs.Fields.{field_at}
 use Rattle.bits.proofs.Places.{ends-here, ends-elsewhere}
-use Rattle.bits.proofs.Seeing.{sees-least, sees-front}
 use Rattle.bits.proofs.fields.ends.Goals as goal
+
+whole : (at : ℕ) → div_ceil at 8 ≡ whole_bytes at
+whole at = omega arith
 
 pub returns-then-bytes-whole : goal.returns-then-bytes-whole
 returns-then-bytes-whole c =
-    let args = c.args in
-    let near = c.look.ensures in
-    let spare = whole_bytes args.at * 8 - args.at in
-    let number =
-    c.front.ensures ∙ sees-front (sees-least near.sees (omega arith)) ∙ ap (λ at. field_at args.bytes.now at spare) near.here in
-    ap (λ k. eqb k 0) number ∙ sym (ends-here args.bytes.now args.at c.if-bytes-whole.true)
+    let known = c.div_ceil-whole.ensures ∙ whole c.args.at in
+    rw (c.take.ensures.number, c.new.ensures, known)
+    (sym (ends-here c.args.bytes.now c.args.at (c.if-bytes-whole.true ∙ known)))
 
 pub returns-else-bytes-whole : goal.returns-else-bytes-whole
 returns-else-bytes-whole c =
-    let args = c.args in
-    sym (ends-elsewhere args.bytes.now args.at c.if-bytes-whole.false)
+    let known = c.div_ceil-whole.ensures ∙ whole c.args.at in
+    let other = rw known at c.if-bytes-whole.false in
+    let bytes = c.args.bytes.now in
+    rw known (ne_eqb (length bytes) (whole_bytes c.args.at) other ∙ sym (ends-elsewhere bytes c.args.at other))
