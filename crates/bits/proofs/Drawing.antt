@@ -13,7 +13,7 @@ use Rattle.std.specs.Int.{bytes_high_first}
 use Rattle.yard.specs.Bits.{to_bits, packed, unpacked, whole_bytes, to_bytes, bits_of}
 use Rattle.yard.proofs.cards.Bits.{Below, fits-run, to_bits-low, packed-append, unpacked-packed, unpacked-zeros, length-to_bytes}
 use Rattle.yard.proofs.cards.Bits.{length-packed, sum-replicate}
-use Rattle.bits.specs.declared.pens.Pen.{Pen}
+use Rattle.bits.specs.declared.pens.CardPen.{CardPen}
 use Rattle.bits.specs.Pens.{IsFresh, drawn_on, drawn, reach, Draws}
 use Rattle.bits.proofs.Words.{joined-low}
 
@@ -61,7 +61,7 @@ bits_of-append [] ys = refl
 bits_of-append (x ∷ xs) ys = ap (λ l. to_bits 8 x ++ l) (bits_of-append xs ys) ∙ sym (append_assoc (to_bits 8 x) (bits_of xs) (bits_of ys))
 
 -- A pen that does nothing.
-pub draws-none : (p : Pen) → Draws [] p p
+pub draws-none : (p : CardPen) → Draws [] p p
 draws-none p =
     record { bits = sym (append-nil (drawn p)); rest = refl; onward = omega arith; size = refl; same_card = refl }
 
@@ -118,25 +118,25 @@ bits_of-four x =
     ∙ to_bits-mod 32 x
 
 -- One drawing behind another is one drawing.
-pub draws-then : {a b : List ℕ} {p q r : Pen} → Draws a p q → Draws b q r → Draws (a ++ b) p r
+pub draws-then : {a b : List ℕ} {p q r : CardPen} → Draws a p q → Draws b q r → Draws (a ++ b) p r
 draws-then {a = a} {b = b} {p = p} {q = q} {r = r} first second =
-    let further : q.at + (r.at - q.at) ≡ r.at = add-sub_of_le second.onward in
-    let later : (l : List ℕ) → drop r.at l ≡ drop (r.at - q.at) (drop q.at l) =
-    λ l. sym (drop-drop (r.at - q.at) q.at l ∙ ap (λ k. drop k l) further) in
+    let further : q.pen.at + (r.pen.at - q.pen.at) ≡ r.pen.at = add-sub_of_le second.onward in
+    let later : (l : List ℕ) → drop r.pen.at l ≡ drop (r.pen.at - q.pen.at) (drop q.pen.at l) =
+    λ l. sym (drop-drop (r.pen.at - q.pen.at) q.pen.at l ∙ ap (λ k. drop k l) further) in
     record {
       bits = second.bits ∙ ap (λ l. l ++ b) first.bits ∙ append_assoc (drawn p) a b;
-      rest = second.rest ∙ later q.card.now ∙ ap (drop (r.at - q.at)) first.rest ∙ sym (later p.card.now);
+      rest = second.rest ∙ later q.card.now ∙ ap (drop (r.pen.at - q.pen.at)) first.rest ∙ sym (later p.card.now);
       onward = omega arith;
       size = second.size ∙ first.size;
       same_card = second.same_card ∙ first.same_card;
     }
 
 -- Seven zero bits at last: the bytes written are those of the bits, and no other is touched.
-pub draws-whole : (bits : List ℕ) (card : MutBor (List ℕ)) (p q : Pen) {after : List ℕ}
+pub draws-whole : (bits : List ℕ) (card : MutBor (List ℕ)) (p q : CardPen) {after : List ℕ}
     → IsFresh card p
     → Draws (bits ++ to_bits 7 0) p q
     → reach q ≡ length bits + 7
-    → q.count < 8
+    → q.pen.count < 8
     → after ≡ q.card.now
     → Below 256 after
     → length bits ≤ length card.now * 8
@@ -144,25 +144,25 @@ pub draws-whole : (bits : List ℕ) (card : MutBor (List ℕ)) (p q : Pen) {afte
 unfolding drawn
 draws-whole bits card p q {after} fresh d reached few held small room =
     let before = card.now in
-    let bytes = take q.at after in
+    let bytes = take q.pen.at after in
     let same : p.card.now ≡ before = ap (λ (c : MutBor (List ℕ)). c.now) fresh.card_is in
-    let none : drawn_on p.card.now p.at p.count p.pending ≡ [] =
-    ap (λ k. drawn_on p.card.now k p.count p.pending) fresh.at ∙ ap (λ k. to_bits k p.pending) fresh.count in
+    let none : drawn_on p.card.now p.pen.at p.pen.count p.pen.pending ≡ [] =
+    ap (λ k. drawn_on p.card.now k p.pen.count p.pen.pending) fresh.at ∙ ap (λ k. to_bits k p.pen.pending) fresh.count in
     let all : length after ≡ length before = ap length held ∙ (d.size ∙ ap length same) in
-    let count : q.at ≡ whole_bytes (length bits) = omega arith in
-    let long : length bytes ≡ q.at = length-take-le q.at after (omega arith) in
-    let fit = fits-run q.at 8 bytes long (below-take q.at after small) in
-    let whole : unpacked (replicate q.at 8) (packed (replicate q.at 8) bytes ++ to_bits q.count q.pending) ≡ bytes =
-    unpacked-packed (replicate q.at 8) bytes (to_bits q.count q.pending) fit in
+    let count : q.pen.at ≡ whole_bytes (length bits) = omega arith in
+    let long : length bytes ≡ q.pen.at = length-take-le q.pen.at after (omega arith) in
+    let fit = fits-run q.pen.at 8 bytes long (below-take q.pen.at after small) in
+    let whole : unpacked (replicate q.pen.at 8) (packed (replicate q.pen.at 8) bytes ++ to_bits q.pen.count q.pen.pending) ≡ bytes =
+    unpacked-packed (replicate q.pen.at 8) bytes (to_bits q.pen.count q.pen.pending) fit in
     let read : bytes ≡ to_bytes bits =
     sym whole
-    ∙ ap (λ k. unpacked (replicate q.at 8) (packed (replicate k 8) bytes ++ to_bits q.count q.pending)) (sym long)
-    ∙ ap (unpacked (replicate q.at 8)) (ap (λ l. drawn_on l q.at q.count q.pending) held ∙ (d.bits ∙ ap (λ l. l ++ (bits ++ to_bits 7 0)) none))
-    ∙ unpacked-zeros (replicate q.at 8) bits 7
+    ∙ ap (λ k. unpacked (replicate q.pen.at 8) (packed (replicate k 8) bytes ++ to_bits q.pen.count q.pen.pending)) (sym long)
+    ∙ ap (unpacked (replicate q.pen.at 8)) (ap (λ l. drawn_on l q.pen.at q.pen.count q.pen.pending) held ∙ (d.bits ∙ ap (λ l. l ++ (bits ++ to_bits 7 0)) none))
+    ∙ unpacked-zeros (replicate q.pen.at 8) bits 7
     ∙ ap (λ k. unpacked (replicate k 8) bits) count in
-    sym (take-append-drop q.at after)
-    ∙ ap (λ l. l ++ drop q.at after) read
-    ∙ ap (λ l. to_bytes bits ++ l) (ap (drop q.at) held ∙ (d.rest ∙ ap (drop q.at) same))
+    sym (take-append-drop q.pen.at after)
+    ∙ ap (λ l. l ++ drop q.pen.at after) read
+    ∙ ap (λ l. to_bytes bits ++ l) (ap (drop q.pen.at) held ∙ (d.rest ∙ ap (drop q.pen.at) same))
     ∙ ap (λ k. to_bytes bits ++ drop k before) (count ∙ sym (length-to_bytes bits))
   where
     below-take : {k : ℕ} (n : ℕ) (l : List ℕ) → Below k l → Below k (take n l)

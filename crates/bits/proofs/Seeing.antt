@@ -5,7 +5,8 @@ use mathlib.Core.List.{List}
 use native.Mathlib.Omega.{arith}
 use lib.Pow.{high, low, field, mod-mod-pow}
 use Rattle.bits.specs.Fields.{field_at}
-use Rattle.bits.specs.Eyes.{Sight, sight, Sees}
+use Rattle.bits.specs.Eyes.{Sees}
+use Rattle.bits.specs.Sights.{Sight, sight}
 use Rattle.bits.proofs.Words.{joined-low}
 use Rattle.bits.proofs.Places.{field-add, field_below}
 

@@ -1,30 +1,17 @@
 // Numbers read from the bits of a slice of bytes, most significant bit first. A bit behind the end counts as 0.
 ghost use Rattle.std.specs.Prelude.{◌≡◌, ◌+◌, ◌-◌, ◌*◌, ◌≤◌, length, get_or};
 ghost use Rattle.bits.specs.Fields.{longest, field_at, fields_at, ends_at};
-
-use std::marker::Model;
+ghost use Rattle.bits.specs.Eyes.{Sees};
 
 // An eye on bytes, at the place of a bit: the byte that it reads next, and the bits that it holds before that byte, the lowest `held` of a
-// number. A contract sees the bytes and the place.
-#[derive(Drop)]
+// number. A contract speaks of the bytes and the place, its sight.
+#[derive(Clone, Copy)]
 pub struct Eye<'a> {
-    bytes: &'a [u8],
-    next: usize,
-    held: usize,
-    word: usize,
-}
-
-impl<'a> Model for Eye<'a> {
-    ghost use Rattle.std.specs.Prelude.{◌-◌, ◌*◌};
-    ghost use Rattle.bits.specs.Eyes.{Sight, sight_code, Sees};
-
-    ghost Value = { Sight };
-
-    ghost coded = { sight_code };
-
-    ghost view = { λ e. record { bytes = e.bytes.now; at = e.next * 8 - e.held } };
-
-    ghost invariant = { λ e. Sees e.bytes.now e.next e.held e.word };
+    pub bytes: &'a [u8],
+    pub next: usize,
+    pub held: usize,
+    pub word: usize,
+    ghost sees: { Sees bytes.now next held word },
 }
 
 // The byte at a place.
@@ -53,12 +40,12 @@ fn window(bytes: &[u8], i: usize) -> usize
 }
 
 impl<'a> Eye<'a> {
-    ghost use Rattle.bits.specs.Eyes.{sight};
+    ghost use Rattle.bits.specs.Sights.{sight, sight_of};
 
     // An eye on the bits from a place on.
     pub fn new(bytes: &'a [u8], at: usize) -> Eye<'a>
         requires { at ≤ longest }
-        ensures { result ≡ sight bytes.now at }
+        ensures { sight_of result ≡ sight bytes.now at }
     {
         Eye {
             bytes,
@@ -69,10 +56,11 @@ impl<'a> Eye<'a> {
     }
 
     // The number of `width` bits at the place, and the eye moves on behind it. It reads four bytes at once, and only where it holds too few.
+    #[tactic(auto, unfolding(crate::specs::Sights::sight_of))]
     pub fn take(&mut self, width: usize) -> usize
-        requires { (width ≤ 16) × (self.old.at ≤ longest) }
-        ensures number { result ≡ field_at self.old.bytes self.old.at width }
-        ensures onward { self.new ≡ sight self.old.bytes (self.old.at + width) }
+        requires { (width ≤ 16) × ((sight_of self.old).at ≤ longest) }
+        ensures number { let s = sight_of self.old in result ≡ field_at s.bytes s.at width }
+        ensures onward { let s = sight_of self.old in sight_of self.new ≡ sight s.bytes (s.at + width) }
     {
         if self.held < width {
             self.word = (self.word << 32) + window(self.bytes, self.next);
@@ -87,8 +75,8 @@ impl<'a> Eye<'a> {
     // stands by itself: inlined into its callers it took longer.
     #[inline(never)]
     pub fn fill(mut self, width: usize, out: &mut [u16])
-        requires { (width ≤ 16) × (self.at + length out.old * width ≤ longest) }
-        ensures { out.new ≡ fields_at self.entry.bytes self.entry.at width (length out.old) }
+        requires { (width ≤ 16) × ((sight_of self).at + length out.old * width ≤ longest) }
+        ensures { let s = sight_of self.entry in out.new ≡ fields_at s.bytes s.at width (length out.old) }
     {
         for item in out {
             // Of at most 16 bits, so that it fits.

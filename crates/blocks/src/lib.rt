@@ -78,6 +78,6 @@ pub fn find(night: Night, steps: usize, numbers: &mut [u16])
     ensures { Coded night.entry.lengths.now (allowed_codes night.entry.closed night.entry.tracks steps) numbers.old numbers.new }
 {
     let mut table = [0u16; codes::CODES];
-    let allowed = codes::allowed_codes(night.closed, night.tracks, steps, &mut table);
+    let allowed = codes::lend_allowed(night.closed, night.tracks, steps, &mut table);
     give(night.lengths, allowed, numbers);
 }

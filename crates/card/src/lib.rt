@@ -33,9 +33,10 @@ fn read_with<const TRAINS: usize, const CARS: usize>(
     };
     let mut trains = [0u16; TRAINS];
     let mut order = [0u16; CARS];
-    card.verdict(room, &mut trains, &mut order)?;
-    lengths[..head.trains].copy_from_slice(&trains[..head.trains]);
-    inbound[..head.cars].copy_from_slice(&order[..head.cars]);
+    let verdict = card.verdict(room, &mut trains, &mut order);
+    verdict?;
+    intake::copy(&trains, head.trains, lengths);
+    intake::copy(&order, head.cars, inbound);
     card.codes(&mut codes[..head.cars]);
     Ok(head)
 }

@@ -126,7 +126,8 @@ impl<'a> Card<'a> {
         let head = self.head;
         head_tests(self.bytes.len(), head)?;
         size_tests(self.bytes.len(), head, room)?;
-        self.lists(&mut trains[..head.trains], &mut order[..head.cars])?;
+        let night = self.lists(&mut trains[..head.trains], &mut order[..head.cars]);
+        night?;
         self.last_tests()
     }
 

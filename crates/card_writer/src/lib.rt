@@ -12,7 +12,7 @@ ghost use Rattle.bits.specs.Pens.{HasRoom, Draws, reach};
 ghost use Rattle.format.specs.Format.{Narrow};
 ghost use Rattle.card_writer.specs.Writing.{IsDrawable, card_over};
 
-use bits::pens::Pen;
+use bits::pens::CardPen;
 use yard::{Head, Layout, ListName, Plan, Refusal};
 
 // A plan, and the numbers at the head of its card.
@@ -24,7 +24,7 @@ pub struct Draft<'a> {
 }
 
 // Draws the head of a card in the widths of its edition, its numbers one behind the other.
-fn draw_head(pen: &mut Pen, l: Layout, head: Head)
+fn draw_head(pen: &mut CardPen, l: Layout, head: Head)
     requires { Narrow l × HasRoom (sum (head_widths l)) pen.old }
     ensures drawn { Draws (packed (head_widths l) (head_fields head)) pen.old pen.new }
     ensures reached { reach pen.new ≡ reach pen.old + sum (head_widths l) }
@@ -81,7 +81,7 @@ impl<'a> Draft<'a> {
         ensures { card.new ≡ card_over (the_plan self.now.plan) card.old }
     {
         let l = format::layout_of(self.head.edition);
-        let mut pen = Pen::new(card);
+        let mut pen = CardPen::new(card);
         draw_head(&mut pen, l, self.head);
         pen.puts(l.number, self.plan.night.lengths);
         pen.puts(l.number, self.plan.night.inbound);

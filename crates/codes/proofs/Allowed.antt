@@ -14,7 +14,7 @@ use Rattle.yard.proofs.yards.Allowed.{F-usable, allowed-drop}
 use Rattle.scan.specs.Front.{Front}
 use Rattle.scan.proofs.Running.{byte-tally}
 use Rattle.scan.proofs.Front.{front_fits}
-use Rattle.codes.specs.Allowed.{IsAllowedPart}
+use Rattle.codes.specs.Allowed.{AllowedPart}
 
 module _ (closed : Bool) (W h : ℕ) (pos : 0 < W) {s table : List ℕ} {r first : ℕ} (codes : Front (usable_codes W h) s r table)
     (is : first ≡ bool_byte closed) where
@@ -30,5 +30,5 @@ module _ (closed : Bool) (W h : ℕ) (pos : 0 < W) {s table : List ℕ} {r first
       (take_at (drop first items) (drop (length items) s) (r - first) (omega (arith, codes.number, length-drop first items)) ∙
       (ap (λ (k : ℕ). drop k items) (is ∙ byte-tally closed) ∙ sym (allowed-drop closed W h pos))))
 
-  pub allowed-part : IsAllowedPart closed W h table (record { start = first; end = r })
+  pub allowed-part : AllowedPart closed W h table (record { from = first; to = r })
   allowed-part = record { begins = first-within; ends = front_fits codes; listed = part-allowed }

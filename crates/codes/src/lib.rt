@@ -9,11 +9,9 @@ ghost use Rattle.yard.specs.Codes.{F, fewest_tracks, fewest_steps, usable_codes,
 ghost use Rattle.codes.specs.Gap.{gaps};
 ghost use Rattle.scan.specs.Found.{found};
 ghost use Rattle.scan.specs.Front.{Under, Front};
-ghost use Rattle.codes.specs.Allowed.{IsAllowedPart};
+ghost use Rattle.codes.specs.Allowed.{AllowedPart};
 ghost use Rattle.codes.specs.Ring.{lost, Ring};
 ghost use Rattle.codes.specs.Wider.{first_wider};
-
-use std::ops::Range;
 
 // How many codes there are of document 01's most steps.
 pub const CODES: usize = 1 << yard::FIRST_STEPS;
@@ -21,6 +19,13 @@ pub const CODES: usize = 1 << yard::FIRST_STEPS;
 // The most usable codes that the fewest steps of a night have: the steps before the last have a code for no more than all cars, and a step at most
 // doubles them.
 pub const MOST_CODES: usize = 2 * yard::CARS;
+
+// A part of a list: the index of its first item, and that behind its last.
+#[derive(Clone, Copy)]
+pub struct Part {
+    pub from: usize,
+    pub to: usize,
+}
 
 // The fewest tracks on which a car with a code is never pulled early, by code.
 const FEWEST: [u8; 256] = [
@@ -193,24 +198,22 @@ pub fn usable_codes(tracks: usize, steps: usize, into: &mut [u16]) -> usize
 
 // Writes the usable codes of these steps to the front of a list, and answers the part of it that a night allows: all, or where it is closed all
 // but the first, which is 0.
-pub fn allowed_part(closed: bool, tracks: usize, steps: usize, into: &mut [u16]) -> Range<usize>
+pub fn allowed_codes(closed: bool, tracks: usize, steps: usize, into: &mut [u16]) -> Part
     requires { Within 1 limits.tracks tracks × (steps ≤ limits.steps) × (F tracks steps ≤ length into.old) }
-    ensures { IsAllowedPart closed tracks steps into.new result }
+    ensures { AllowedPart closed tracks steps into.new result }
 {
-    let end = usable_codes(tracks, steps, into);
-    usize::from(closed)..end
+    let to = usable_codes(tracks, steps, into);
+    Part {
+        from: usize::from(closed),
+        to,
+    }
 }
 
 // The same, with the part lent: while it is, no clause can say what stands in the list around it.
-pub fn allowed_codes<'a>(
-    closed: bool,
-    tracks: usize,
-    steps: usize,
-    into: &'a mut [u16],
-) -> &'a [u16]
+pub fn lend_allowed<'a>(closed: bool, tracks: usize, steps: usize, into: &'a mut [u16]) -> &'a [u16]
     requires { Within 1 limits.tracks tracks × (steps ≤ limits.steps) × (F tracks steps ≤ length into.old) }
     ensures { result.now ≡ allowed_codes closed tracks steps }
 {
-    let part = allowed_part(closed, tracks, steps, into);
-    &into[part.start..part.end]
+    let part = allowed_codes(closed, tracks, steps, into);
+    &into[part.from..part.to]
 }

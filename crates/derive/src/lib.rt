@@ -31,7 +31,7 @@ fn give_by<const N: usize>(night: Night, steps: usize, numbers: &mut [u16])
     ensures { numbers.new ≡ map (code_number night.entry.closed night.entry.tracks steps) numbers.old }
 {
     let mut table = [0u16; N];
-    let allowed = codes::allowed_codes(night.closed, night.tracks, steps, &mut table);
+    let allowed = codes::lend_allowed(night.closed, night.tracks, steps, &mut table);
     look_up(allowed, numbers);
 }
 
@@ -72,7 +72,7 @@ pub fn settle(
             cars: pulls.pull(step),
         });
     }
-    codes[..derived.len()].copy_from_slice(derived);
+    intake::copy(derived, derived.len(), codes);
     Ok(Derived {
         steps,
         passes: pulls.passes(steps),

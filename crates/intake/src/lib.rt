@@ -1,7 +1,7 @@
 // The tests of what comes from outside: counts, and the lengths of lists and buffers, each refused as document 01 says.
 #![tactic(auto)]
 
-ghost use Rattle.std.specs.Prelude.{◌≡◌, ◌^◌, ◌≤◌};
+ghost use Rattle.std.specs.Prelude.{◌≡◌, ◌++◌, ◌^◌, ◌≤◌, length, take, drop};
 ghost use Rattle.yard.specs.Answers.{says, test, verdict, count_test, list_test};
 ghost use Rattle.yard.specs.Calls.{count_tests, night_counts};
 ghost use Rattle.yard.specs.Lent.{the_night};
@@ -54,4 +54,17 @@ pub fn power(k: usize) -> usize
     ensures { result ≡ 2 ^ k }
 {
     1 << k
+}
+
+// Copies the first `count` items of a list to the front of a buffer. By a loop, since std's `copy_from_slice` of a length that is known only at run
+// time would have the archive call the C library's `memmove`; and never inlined, since beside an array of the caller's own LLVM would see that the
+// two lists lie apart, and make the loop such a call.
+#[inline(never)]
+pub fn copy(items: &[u16], count: usize, out: &mut [u16])
+    requires { (count ≤ length items.now) × (count ≤ length out.old) }
+    ensures { out.new ≡ take count items.now ++ drop count out.old }
+{
+    for (i, &item) in items[..count].iter().enumerate() {
+        out[i] = item;
+    }
 }

@@ -9,16 +9,22 @@ ghost use Rattle.yard.specs.Night.{sum, cars_of};
 ghost use Rattle.yard.specs.Refusals.{refused};
 ghost use Rattle.yard.specs.Lent.{the_plan};
 ghost use Rattle.lines.specs.Text.{Grows};
-ghost use Rattle.lines.specs.Lines.{answer_line, plan_line, train_line, each_to};
+ghost use Rattle.lines.specs.Lines.{answer_line, counts_line, plan_line, train_line, each_to};
 
 pub use text::Text;
-use yard::{Answer, Plan, Refusal};
+use yard::{Answer, Plan, Refusal, Sizes};
 
 // The only line where a card is refused.
 pub fn refusal(text: &mut Text, refusal: Refusal)
     ensures { Grows (answer_line (refused refusal)) text.old text.new }
 {
-    let told = Answer::from(refusal);
+    answer(text, refusal.into());
+}
+
+// The same line, of any number, A and B.
+pub fn answer(text: &mut Text, told: Answer)
+    ensures { Grows (answer_line told) text.old text.new }
+{
     text.labelled(b"refused ", told.number);
     text.labelled(b" ", told.a);
     text.labelled(b" ", told.b);
@@ -29,12 +35,18 @@ pub fn refusal(text: &mut Text, refusal: Refusal)
 pub fn counts(text: &mut Text, plan: Plan, passes: usize)
     ensures { Grows (plan_line (the_plan plan.entry) passes) text.old text.new }
 {
-    let night = plan.night;
-    text.labelled(b"steps ", plan.steps);
-    text.labelled(b" tracks ", night.tracks);
-    text.labelled(b" room ", night.room);
-    text.labelled(b" cars ", night.inbound.len());
-    text.labelled(b" trains ", night.lengths.len());
+    sizes(text, plan.night.sizes(plan.steps), passes);
+}
+
+// The same line, of any counts.
+pub fn sizes(text: &mut Text, told: Sizes, passes: usize)
+    ensures { Grows (counts_line told.steps told.tracks told.room told.cars told.trains passes) text.old text.new }
+{
+    text.labelled(b"steps ", told.steps);
+    text.labelled(b" tracks ", told.tracks);
+    text.labelled(b" room ", told.room);
+    text.labelled(b" cars ", told.cars);
+    text.labelled(b" trains ", told.trains);
     text.labelled(b" passes ", passes);
     text.bytes(b"\n");
 }

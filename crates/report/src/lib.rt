@@ -11,7 +11,7 @@ ghost use Rattle.lines.specs.Text.{Adds};
 ghost use Rattle.lines.specs.Lines.{answer_line};
 ghost use Rattle.report.specs.Programs.{PutsOut, nightcard_text, nightplan_in};
 
-pub use edge::run;
+pub use edge::{Taken, input, run, said};
 use lines::Text;
 use reading::Lists;
 use yard::{Plan, Refusal};

@@ -13,8 +13,8 @@ use Rattle.blocks.specs.Trains.{AllBlocked}
 use Rattle.blocks.proofs.Coding.{allowed-few, allowed-under}
 use Rattle.blocks.proofs.find.Goals as goal
 
-pub allowed_codes-allowed-requires : goal.allowed_codes-allowed-requires
-allowed_codes-allowed-requires c =
+pub lend_allowed-allowed-requires : goal.lend_allowed-allowed-requires
+lend_allowed-allowed-requires c =
     let pre = c.requires in (
       within_more (omega arith) pre.0,
       omega (arith, pre.1),
@@ -27,7 +27,7 @@ give-requires c =
     let pre = c.requires in
     subst
     (λ (l : List ℕ). (length l ≤ 2 ^ first_limits.steps) × Under (2 ^ first_limits.steps) l × AllBlocked n.lengths.now (length l) c.args.numbers.now)
-    (sym c.allowed_codes-allowed.ensures) (
+    (sym c.lend_allowed-allowed.ensures) (
       allowed-few n.closed n.tracks c.args.steps pre.0.0 pre.1,
       allowed-under n.closed n.tracks c.args.steps pre.1,
       pre.2,

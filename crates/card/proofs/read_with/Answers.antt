@@ -10,11 +10,11 @@ returns-in_err-verdict g c =
     let a = c.args in
     let e = c.in_err-verdict.field-0.0 in
     let is : c.from_residual.result ≡ Err e = search rules in
-    rw is (reads-refused a.card.now.bytes.now a.lengths.now a.inbound.now a.codes.now a.card.now.given e c.in_err-verdict.ensures.verdict)
+    rw is (reads-refused a.card.now.bytes.now a.lengths.now a.inbound.now a.codes.now a.card.now.given e (rw c.in_err-verdict.was at c.verdict-verdict.ensures.verdict))
 
 pub returns : goal.returns
 returns g c =
     let a = c.args in
-    let held = c.in_ok-verdict.ensures.held refl in
-    rw (c.copy_from_slice.ensures.after, held.lengths, c.copy_from_slice-2.ensures.after, held.inbound, c.codes.ensures)
-    (reads-accepted a.card.now.bytes.now a.lengths.now a.inbound.now a.codes.now a.card.now.given c.in_ok-verdict.ensures.verdict a.card.now.head_is)
+    let held = (rw c.in_ok-verdict.was at c.verdict-verdict.ensures.held) refl in
+    rw (c.copy.ensures, held.lengths, c.copy-2.ensures, held.inbound, c.codes.ensures)
+    (reads-accepted a.card.now.bytes.now a.lengths.now a.inbound.now a.codes.now a.card.now.given (rw c.in_ok-verdict.was at c.verdict-verdict.ensures.verdict) a.card.now.head_is)

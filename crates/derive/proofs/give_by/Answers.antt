@@ -10,8 +10,8 @@ pub look_up-requires : goal.look_up-requires
 look_up-requires g c =
     let night = c.args.night in
     let pre = c.requires.0 in
-    λ i l. omega (arith, ap length c.allowed_codes-allowed.ensures, F-allowed night.closed night.tracks c.args.steps pre.tracks.0, pre.below i l)
+    λ i l. omega (arith, ap length c.lend_allowed-allowed.ensures, F-allowed night.closed night.tracks c.args.steps pre.tracks.0, pre.below i l)
 
 pub returns : goal.returns
 unfolding code_number
-returns g c = rw c.allowed_codes-allowed.ensures at c.look_up.ensures
+returns g c = rw c.lend_allowed-allowed.ensures at c.look_up.ensures

@@ -9,14 +9,16 @@ use lib.Seq.{drop-length}
 use mathlib.Core.List.{append-nil}
 use lib.Pow.{pow_mono}
 use Rattle.bits.specs.Fields.{fields_at}
-use Rattle.bits.specs.Eyes.{Sight, sight}
+use Rattle.bits.specs.Sights.{Sight, sight, sight_of}
 use Rattle.bits.proofs.Places.{field_below, fields-stored}
 use Rattle.bits.proofs.fields.Eye.fill.Goals as goal
 use Rattle.bits.proofs.fields.Eye.fill.Goals.{After-take}
 
 pub loop-item-init : goal.loop-item-init
 unfolding fields_at
-loop-item-init c = record { stored = refl; here = ap (sight c.args.self.bytes) (omega arith) }
+loop-item-init c =
+    let s = sight_of c.args.self in
+    record { stored = refl; here = ap (sight s.bytes) (omega arith) }
 
 pub take-requires : goal.take-requires
 take-requires c =
@@ -26,18 +28,18 @@ take-requires c =
 
 pub overflow_cast-item : goal.overflow_cast-item
 overflow_cast-item c =
-    let eye = c.loop-item.self in
-    record { fits = rw c.take.ensures.number (lt_of_lt_of_le (field_below eye.bytes eye.at c.args.width) (pow_mono c.requires.0)) }
+    let s = sight_of c.loop-item.self in
+    record { fits = rw c.take.ensures.number (lt_of_lt_of_le (field_below s.bytes s.at c.args.width) (pow_mono c.requires.0)) }
 
 pub loop-item-preserved : goal.loop-item-preserved
 loop-item-preserved c =
-    let eye = c.args.self in
+    let s = sight_of c.args.self in
     let i = c.loop-item.item-index in
     record {
       stored = rw (add-one, c.take.ensures.number, c.loop-item.invariant.here, c.loop-item.invariant.stored)
-          (fields-stored eye.bytes c.args.out.now eye.at c.args.width i (omega arith));
+          (fields-stored s.bytes c.args.out.now s.at c.args.width i (omega arith));
       here = rw (add-one, c.take.ensures.onward, c.loop-item.invariant.here)
-          (ap (sight eye.bytes) (omega (arith, suc-mul i c.args.width)));
+          (ap (sight s.bytes) (omega (arith, suc-mul i c.args.width)));
     }
 
 pub returns : goal.returns

@@ -4,11 +4,11 @@ use mathlib.Core.List.{◌++◌}
 use Prim.Native.Nat.{◌+◌, ◌*◌}
 use lib.ListN.{drop}
 use Rattle.bits.specs.Fields.{fields_at}
-use Rattle.bits.specs.Eyes.{sight}
+use Rattle.bits.specs.Sights.{sight, sight_of}
 use Rattle.bits.proofs.fields.Eye.fill.Given as goal
 
 abbrev pub invariant-loop-item : goal.invariant-loop-item
-invariant-loop-item l = let eye = l.initial.self in record {
-  stored : l.item-items ≡ fields_at eye.bytes eye.at l.width l.item-index ++ drop l.item-index l.initial.item-items;
-  here : l.self ≡ sight eye.bytes (eye.at + l.item-index * l.width);
+invariant-loop-item l = let s = sight_of l.initial.self in record {
+  stored : l.item-items ≡ fields_at s.bytes s.at l.width l.item-index ++ drop l.item-index l.initial.item-items;
+  here : sight_of l.self ≡ sight s.bytes (s.at + l.item-index * l.width);
 }

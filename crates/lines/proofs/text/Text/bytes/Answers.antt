@@ -1,5 +1,6 @@
 -- The proof of `bytes`: as much of the piece as fits stands behind the text.
 use mathlib.Core.Path.{refl}
+use native.Mathlib.Omega.{arith}
 use Rattle.lines.proofs.Adding.{adds-some}
 use Rattle.lines.proofs.text.Text.bytes.Goals as goal
 
@@ -8,5 +9,5 @@ returns c =
     let text = c.args.self.now in
     record {
       lender = refl;
-      adds = rw c.copy_from_slice.ensures.after (adds-some c.args.piece.now text.buffer.now text.end c.min-n.result text.within c.min-n.ensures);
+      adds = rw c.copy_from_slice.ensures.after (adds-some c.args.piece.now text.buffer.now text.end c.min-n.result text.within (omega (arith, c.min-n.ensures)));
     }

@@ -1,4 +1,4 @@
--- The proof of `Pen::puts`: the numbers passed have been drawn.
+-- The proof of `CardPen::puts`: the numbers passed have been drawn.
 use mathlib.Core.Path.{◌≡◌}
 use native.Mathlib.Nat.{suc-mul, mul-le-mul_right}
 use native.Mathlib.Numerals.{add-one}
@@ -6,7 +6,7 @@ use native.Mathlib.Omega.{arith}
 use lib.ListN.{length}
 use lib.Seq.{take-length}
 use Rattle.bits.proofs.Drawing.{run-next, draws-none, draws-then}
-use Rattle.bits.proofs.pens.Pen.puts.Goals as goal
+use Rattle.bits.proofs.pens.CardPen.puts.Goals as goal
 
 pub loop-x-init : goal.loop-x-init
 loop-x-init c = record { drawn = draws-none c.args.self.now; reached = omega arith }

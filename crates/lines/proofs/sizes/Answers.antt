@@ -1,7 +1,7 @@
--- The proof of `counts`: one piece behind another.
+-- The proof of `sizes`: one piece behind another.
 use Rattle.lines.specs.Lines.{counts_line}
 use Rattle.lines.proofs.Adding.{grows_then}
-use Rattle.lines.proofs.counts.Goals as goal
+use Rattle.lines.proofs.sizes.Goals as goal
 
 pub returns : goal.returns
 unfolding counts_line

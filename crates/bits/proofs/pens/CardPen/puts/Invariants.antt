@@ -1,10 +1,10 @@
--- The proof of `Pen::puts`: the numbers passed have been drawn.
+-- The proof of `CardPen::puts`: the numbers passed have been drawn.
 use mathlib.Core.Path.{◌≡◌}
 use Prim.Native.Nat.{◌+◌, ◌*◌}
 use lib.ListN.{take, replicate}
 use Rattle.yard.specs.Bits.{packed}
 use Rattle.bits.specs.Pens.{reach, Draws}
-use Rattle.bits.proofs.pens.Pen.puts.Given as goal
+use Rattle.bits.proofs.pens.CardPen.puts.Given as goal
 
 abbrev pub invariant-loop-x : goal.invariant-loop-x
 invariant-loop-x l = record {

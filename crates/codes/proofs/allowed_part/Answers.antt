@@ -1,7 +1,0 @@
--- The proof of `allowed_part`: behind the codes that are not allowed stand those that are.
-use Rattle.codes.proofs.Allowed.{allowed-part}
-use Rattle.codes.proofs.allowed_part.Goals as goal
-
-pub returns : goal.returns
-returns c =
-    allowed-part c.args.closed c.args.tracks c.args.steps c.requires.0.0 c.usable_codes-end.ensures c.from.ensures
